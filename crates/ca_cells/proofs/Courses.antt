@@ -11,8 +11,8 @@ use Rattle.ca_meaning.specs.Agree.{AgreesAt}
 use Rattle.ca_meaning.specs.WellTyped.{AllWellTyped}
 use Rattle.ca_parallel.specs.Extents.{Extent}
 use Rattle.ca_order_laws.specs.Order.{AllInside}
-use Rattle.ca_section.specs.Olds.{put_back, AllThere}
-use Rattle.ca_section.specs.declared.olds.Old.{Old}
+use Rattle.ca_undo.specs.Olds.{put_back, AllThere}
+use Rattle.ca_undo.specs.declared.olds.Old.{Old}
 use Rattle.ca_sections.specs.Answers.{CanUndo}
 use Rattle.ca_sections.proofs.Later.{back_later, there_later}
 use Rattle.ca_sections.specs.declared.desk.Desk.{Desk}

@@ -1,12 +1,12 @@
 -- An operation of an extent that the plan has for a marked call or a marked loop is one to which such a call or loop may lead.
 use Rattle.std.proofs.Common.{inl, inr, ◌⊎◌, ◌≡◌, ℕ, zero, suc, ◌+◌, Bool, true, false, ◌||◌, List, [], ◌∷◌, ◌++◌, length, Some, refl, sym, ap, subst, arith, ⊎_elim}
 use Rattle.std.specs.Prelude.{Contains, nat_eq, slice_get}
-use Rattle.std.proofs.lemmas.Bool.{eqb-true, or_left, or_right}
+use Rattle.std.proofs.lemmas.Bool.{eqb-true, or_right}
 use Rattle.ca_lists.proofs.Members.{has_first, has_further}
 use Rattle.ca_program.specs.declared.program.LoopId.{LoopId}
 use Rattle.ca_program.specs.declared.program.OpId.{OpId}
 use Rattle.ca_program.specs.declared.program.FieldId.{FieldId}
-use Rattle.ca_program.specs.Plain.{PlainProgram, Statement}
+use Rattle.ca_program.specs.Plain.{PlainProgram}
 use Rattle.ca_parallel.specs.Bodies.{calls_of}
 use Rattle.ca_parallel.specs.Extents.{Extent, operation_body}
 use Rattle.ca_parallel.specs.Lists.{op_in}

@@ -213,5 +213,13 @@ impl Extents for Replayer {
         false
     }
 
+    fn first_steps(&self, _mark: Mark) -> u64 {
+        u64::MAX
+    }
+
+    fn gains(&mut self, _program: &Coded<'_>, _heap: &Heap, _first: &[Op], _budget: u64) -> bool {
+        true
+    }
+
     fn pass(&self, _object: u32) {}
 }

@@ -23,7 +23,7 @@ use Rattle.ca_parallel.specs.Bodies.{targets_of, targets_of_all}
 use Rattle.ca_parallel.specs.Extents.{Extent, Writes}
 use Rattle.ca_sum_laws.specs.Summed.{IsSummed, AreSummed}
 use Rattle.ca_beside.specs.declared.beside.Changed.{Changed}
-use Rattle.ca_run.specs.declared.puts.Put.{Put}
+use Rattle.ca_undo.specs.declared.puts.Put.{Put}
 use Rattle.ca_steps.specs.declared.access.Look.TheVariants.{Holds}
 use Rattle.ca_steps.specs.Telling.{Looks}
 use Rattle.ca_steps.proofs.Loading.{none_indexed}

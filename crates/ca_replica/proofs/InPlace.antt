@@ -21,7 +21,7 @@ use Rattle.ca_model.proofs.Stores.{stored_is}
 use Rattle.ca_meaning.specs.Agree.{AgreesAt}
 use Rattle.ca_meaning.specs.Expressions.{one_in, slot_of, slots_in}
 use Rattle.ca_parallel.specs.Extents.{Extent}
-use Rattle.ca_section.specs.Olds.{item_in}
+use Rattle.ca_undo.specs.Olds.{item_in}
 use Rattle.ca_section.specs.Offences.{is_written}
 use Rattle.ca_section.proofs.Fields.{written_decided}
 use Rattle.ca_order_laws.specs.Order.{StandsFor}
@@ -33,15 +33,16 @@ use Rattle.ca_order_laws.proofs.Weights.{Decides, equal, other}
 use Rattle.ca_beside.specs.declared.beside.Changed.{Changed}
 use Rattle.ca_beside.specs.Beside.{present, AreDistinct, IsAbsent, IsPlace, with_value}
 use Rattle.ca_beside.proofs.Present.{changed, past_none, present_absent, present_at, present_length, present_set, set_at, set_past}
-use Rattle.ca_run.specs.declared.puts.Put.{Put}
-use Rattle.ca_run.specs.Puts.{put_back, restored}
-use Rattle.ca_run.proofs.Restoring.{put_back_there, put_back_nowhere, put_undone_by, still_has}
+use Rattle.ca_undo.specs.declared.puts.Put.{Put}
+use Rattle.ca_undo.specs.Puts.{put_back, restored}
+use Rattle.ca_undo.proofs.Restoring.{put_back_there, put_back_nowhere, put_undone_by, still_has}
 use Rattle.ca_replica.specs.Zeroed.{zeroed, zeroed_field, zeroed_slot, zeroed_heap}
 use Rattle.ca_replica.specs.Applied.{sums}
 use Rattle.ca_replica.specs.declared.marks.FieldMark.{FieldMark}
 use Rattle.ca_replica.specs.declared.marks.FieldMark.TheVariants.{Free, Of, Several}
 use Rattle.ca_replica.specs.Calls.{IsMarked, Marks}
-use Rattle.ca_replica.specs.InPlace.{mark_in, zero_value, KeepsClasses, KeepsConstants, HasCopy, AllHave, IsWritten, AllWritten, Keeps, IsTop}
+use Rattle.ca_undo.specs.Hands.{IsTop}
+use Rattle.ca_replica.specs.InPlace.{mark_in, zero_value, KeepsClasses, KeepsConstants, HasCopy, AllHave, IsWritten, AllWritten, Keeps}
 use Rattle.ca_replica.proofs.Beginning.{free_absent}
 use Rattle.ca_replica.proofs.Copying.{zeroed_at}
 use Rattle.ca_replica.proofs.Sums.{zero_absent, zero_one, zero_here, zero_else, chosen_here, chosen_else, zeroed_many}

@@ -14,12 +14,13 @@ use Rattle.ca_meaning.specs.Expressions.{one_in, slot_of, slots_in}
 use Rattle.ca_beside.specs.declared.beside.Changed.{Changed}
 use Rattle.ca_beside.specs.Beside.{present}
 use Rattle.ca_beside.proofs.Present.{changed, present_at, present_length}
-use Rattle.ca_run.specs.declared.puts.Put.{Put}
-use Rattle.ca_run.specs.Puts.{put_back, restored}
-use Rattle.ca_run.proofs.Restoring.{put_back_nowhere, put_undone_by}
+use Rattle.ca_undo.specs.declared.puts.Put.{Put}
+use Rattle.ca_undo.specs.Puts.{put_back, restored}
+use Rattle.ca_undo.proofs.Restoring.{put_back_nowhere, put_undone_by}
 use Rattle.ca_steps.specs.Telling.{Adds}
 use Rattle.ca_replica.specs.Applied.{sums}
-use Rattle.ca_replica.specs.InPlace.{HasNumber, IsTop, IsWritten, KeepsClasses}
+use Rattle.ca_undo.specs.Hands.{IsTop}
+use Rattle.ca_replica.specs.InPlace.{HasNumber, IsWritten, KeepsClasses}
 use Rattle.ca_replica.proofs.InPlace.{copy_there, field_at, long_has, long_item, restored_over, restored_past, stored_past}
 
 -- beside a heap with such an object the copy is found in its place

@@ -1,6 +1,6 @@
 -- A run on a replica: what stays while its bodies run, and what is known of the heap of sums then.
 use base.Fml.{GName}
-use Rattle.std.specs.Prelude.{ℕ, ℤ, ◌≡◌, ◌<◌, ◌^◌, pos, List, [], ◌∷◌, Contains, Option, Some, None, slice_get}
+use Rattle.std.specs.Prelude.{ℕ, ℤ, ◌≡◌, pos, List, [], ◌∷◌, Contains, Option, Some, None, slice_get}
 use Rattle.ca_program.specs.declared.program.FieldId.{FieldId}
 use Rattle.ca_program.specs.declared.program.Program.{Program}
 use Rattle.ca_model.specs.declared.value.Value.{Value as Datum}
@@ -10,11 +10,10 @@ use Rattle.ca_model.specs.declared.value.Object.{Object}
 use Rattle.ca_meaning.specs.Expressions.{one_in, slots_in}
 use Rattle.ca_beside.specs.declared.beside.Changed.{Changed}
 use Rattle.ca_beside.specs.Beside.{AreDistinct, IsPlace}
-use Rattle.ca_run.specs.declared.puts.Put.{Put}
-use Rattle.ca_run.specs.Puts.{restored}
+use Rattle.ca_undo.specs.declared.puts.Put.{Put}
+use Rattle.ca_undo.specs.Puts.{restored}
 use Rattle.ca_replica.specs.declared.marks.FieldMark.{FieldMark}
 use Rattle.ca_replica.specs.declared.marks.FieldMark.TheVariants.{Free}
-use Rattle.ca_replica.specs.declared.olds.LastOld.{LastOld}
 use Rattle.ca_replica.specs.Applied.{sums}
 use Rattle.ca_replica.specs.Calls.{Marks}
 
@@ -92,12 +91,3 @@ pub record Keeps (written : List FieldId) (frozen : List Object) (marks : List F
   pub arrays : KeepsArrays written frozen
   pub there : AllHave olds copies
   pub puts : AllWritten written frozen olds
-
--- the old value that was kept last is of this item
-abbrev pub IsTop : List Put → ℕ → ℕ → ℕ → Type 0
-IsTop [] n f i = ⊥
-IsTop (o ∷ os) n f i = (o.object ≡ n) × (o.field ≡ f) × (o.item ≡ i)
-
--- what is at hand, if it tells an object, is the old value that was kept last, and one of a single value
-abbrev pub IsHand : LastOld → List Put → Type 0
-IsHand d os = d.object < 2 ^ 32 → IsTop os d.object d.field 0

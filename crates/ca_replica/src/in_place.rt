@@ -6,14 +6,13 @@ ghost use Rattle.ca_model.specs.Typed.{TypedHeap};
 ghost use Rattle.ca_meaning.specs.ProgramTyped.{ProgramTyped};
 ghost use Rattle.ca_meaning.specs.WellTyped.{WellTyped};
 ghost use Rattle.ca_parallel.specs.Calls.{invocation_of};
-ghost use Rattle.ca_run.specs.InPlace.{CallEnds};
-ghost use Rattle.ca_run.specs.Puts.{restored};
+ghost use Rattle.ca_sections.specs.InOrder.{CallEnds};
+ghost use Rattle.ca_undo.specs.Puts.{restored};
 ghost use Rattle.ca_replica.specs.Applied.{sums};
 ghost use Rattle.ca_replica.specs.InPlace.{AllHave, Keeps};
 
 use crate::ground::Ground;
 use crate::marks::{FieldMark, stays};
-use crate::olds::OldSums;
 use crate::values::{add_any, own_look, own_slowly, put_sum, told_at_once};
 use ca_base::{Gate, Memory};
 use ca_beside::Beside;
@@ -23,6 +22,7 @@ use ca_parallel::Op;
 use ca_program::{FieldId, Program};
 use ca_sections::Coded;
 use ca_steps::{Access, Frames, Halt, Look, number_of, receiver_of, run_from};
+use ca_undo::OldSums;
 use std::alloc::Global;
 
 /// The world of a run on copies: its heap is that of the sums. What the extent doesn't write is read in the frozen heap, where it is
@@ -222,6 +222,7 @@ fn run_call<G: Gate>(
         Halt::Spends => Ok(None),
         Halt::Leaves => Err(Memory),
         Halt::Fails => Err(Memory),
+        Halt::Memory => Err(Memory),
     }
 }
 

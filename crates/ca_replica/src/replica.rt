@@ -15,7 +15,6 @@ ghost use Rattle.ca_replica.specs.Zeroed.{zeroed_heap};
 use crate::adding::{add_copies, take_copies};
 use crate::in_place::run_whole;
 use crate::marks::FieldMark;
-use crate::olds::OldSums;
 use crate::values::put_all_back;
 use crate::zeroing::zero;
 use ca_base::{Gate, Memory};
@@ -25,6 +24,7 @@ use ca_model::Heap;
 use ca_parallel::Op;
 use ca_sections::{Coded, Desk, SectionAnswer};
 use ca_steps::Frames;
+use ca_undo::OldSums;
 use std::alloc::{AllocError, Global};
 
 /// Copies of the objects that a worker touched. Numbers that the extent writes began at 0 in them, so they are sums.

@@ -8,8 +8,8 @@ ghost use Rattle.ca_model.specs.Heaps.{stored};
 ghost use Rattle.ca_meaning.specs.Expressions.{one_in, slot_of, slots_in};
 ghost use Rattle.ca_beside.specs.declared.beside.Changed.{Changed};
 ghost use Rattle.ca_beside.specs.Beside.{present, IsPlace};
-ghost use Rattle.ca_run.specs.Puts.{put_back, restored};
-ghost use Rattle.ca_run.specs.declared.puts.Put.{Put};
+ghost use Rattle.ca_undo.specs.Puts.{put_back, restored};
+ghost use Rattle.ca_undo.specs.declared.puts.Put.{Put};
 ghost use Rattle.ca_steps.specs.Telling.{Adds, Looks};
 ghost use Rattle.ca_replica.specs.Applied.{sums};
 ghost use Rattle.ca_replica.specs.InPlace.{AllHave, AllWritten, HasCopy, HasNumber, IsWritten, Keeps, zero_value};
@@ -18,13 +18,12 @@ ghost use Rattle.ca_replica.specs.Zeroed.{zeroed};
 use crate::deciding::is_written;
 use crate::ground::Ground;
 use crate::marks::{is_put, is_put_at_once, stays, stays_at_once, stays_slowly};
-use crate::olds::OldSums;
 use crate::replica::place_of;
 use ca_beside::Beside;
 use ca_model::{Heap, Object, Slot, Slots, Value};
 use ca_program::FieldId;
-use ca_run::{Put, value_of};
 use ca_steps::{Look, field_of, look_at, sum_of};
+use ca_undo::{OldSums, Put, value_of};
 
 /// The single value of a field, and null where there is none.
 #[inline(always)]

@@ -6,10 +6,9 @@ ghost use Rattle.ca_model.specs.Typed.{TypedHeap};
 ghost use Rattle.ca_meaning.specs.ProgramTyped.{ProgramTyped};
 ghost use Rattle.ca_meaning.specs.WellTyped.{AllWellTyped, WellTyped};
 ghost use Rattle.ca_parallel.specs.Calls.{invocation_of, invocations_of};
-ghost use Rattle.ca_run.specs.InPlace.{CallEnds, CallsEnd, LeftBy};
-ghost use Rattle.ca_run.specs.Puts.{before};
+ghost use Rattle.ca_sections.specs.InOrder.{CallEnds, CallsEnd, LeftBy};
+ghost use Rattle.ca_undo.specs.Puts.{before};
 
-use crate::puts::Kept;
 use ca_base::{Gate, Memory};
 use ca_model::{Heap, Value};
 use ca_parallel::Op;
@@ -19,6 +18,7 @@ use ca_steps::{
     Access, Frames, Halt, Look, field_of, number_of, own_field, own_look, receiver_of, run_from,
     sum_of,
 };
+use ca_undo::Kept;
 use std::alloc::Global;
 
 /// The world of a run in a heap that is lent, with what undoes its puts, and the gate that each call passes.
@@ -35,7 +35,7 @@ impl<'s, G: Gate> Access for InPlace<'s, G> {
     ghost use Rattle.ca_meaning.specs.Serial.{World as RunWorld, in_heap};
     ghost use Rattle.ca_code_laws.specs.Runs.{run_access};
     ghost use Rattle.ca_run.specs.InPlace.{Lasting};
-    ghost use Rattle.ca_run.specs.Puts.{before};
+    ghost use Rattle.ca_undo.specs.Puts.{before};
 
     ghost World = { RunWorld };
 
@@ -159,6 +159,7 @@ fn left_of(halt: Halt, left: u64) -> Result<Option<u64>, Memory>
         Halt::Spends => Ok(None),
         Halt::Leaves => Err(Memory),
         Halt::Fails => Err(Memory),
+        Halt::Memory => Err(Memory),
     }
 }
 

@@ -1,7 +1,7 @@
 -- A program with its code: where bodies begin.
-use Rattle.std.proofs.Common.{◌≡◌, ◌<◌, ℕ, List, [], ◌∷◌, ◌++◌, length, map, Some, sym, ap, ◌∙◌, subst, arith}
-use Rattle.std.specs.Prelude.{slice_get}
-use Rattle.std.proofs.lemmas.Option.{slice_get_within}
+use Rattle.std.proofs.Common.{◌≡◌, ◌<◌, ℕ, List, [], ◌∷◌, ◌++◌, length, map, Option, Some, None, refl, sym, ap, ◌∙◌, subst, arith}
+use Rattle.std.specs.Prelude.{true, slice_get}
+use Rattle.std.proofs.lemmas.Option.{same_Some, slice_get_within}
 use Rattle.ca_program.specs.declared.program.OpId.{OpId}
 use Rattle.ca_program.specs.declared.program.Program.{Program}
 use Rattle.ca_program.specs.Instructions.{Code, HasAt, Placed, StandsAt}
@@ -10,25 +10,11 @@ use Rattle.ca_program.specs.Plain.{PlainMethod, PlainProgram}
 use Rattle.ca_program.specs.View.{program_view}
 use Rattle.ca_code.specs.Codes.{code_seen}
 use Rattle.ca_code.specs.Seen.{placed}
-use Rattle.ca_code_laws.specs.Told.{IsLaidOut}
+use Rattle.ca_code_laws.specs.Fitting.{FitsMethod}
 use Rattle.ca_code_laws.proofs.Steps.{length_mapped}
 use Rattle.ca_steps.specs.declared.running.Laid.{Laid}
 use Rattle.ca_selection.specs.Ops.{Runs}
 use Rattle.ca_sections.specs.Fitting.{IsCoded, Starts}
-
-some_there : (xs : List ℕ) (i n : ℕ) → slice_get xs i ≡ Some n → 0 < length xs
-some_there [] i n e = absurd (cc)
-some_there (x ∷ xs) i n e = omega arith
-
--- where no section is run nothing is asked of bodies
-pub none_coded : (p : Program) (laid : Laid) (places : List ℕ) → IsLaidOut (program_view p) (code_seen laid.code) → Runs (code_seen laid.code) laid.code.rows.items laid.ops.items → places ≡ [] → IsCoded p laid places
-none_coded p laid places told runs none = record {
-  functions = λ some. absurd (omega (arith, some, ap length none));
-  laid = told;
-  runs = runs;
-  each = λ i place at lt. let f : slice_get [] i ≡ Some place = ap (λ (r : List ℕ). slice_get r i) (sym none) ∙ at in absurd cc;
-  all = λ some. absurd (omega (arith, some, ap length none));
-}
 
 -- where rows stand something is run
 rows_within : (c : Code) (at : ℕ) (xs : List Placed) (x : Placed) → HasAt c at (xs ++ x ∷ []) → at < length c.items
@@ -51,7 +37,7 @@ body_starts p laid places is op place at there =
     let m = is.each op.0 place at there in
     let stands = subst (λ s. StandsAt (code_seen laid.code) s (operation_code (program_view p) m.0)) m.3 (is.laid.ops op.0 m.0 m.1).0 in
     record {
-      functions = is.functions (some_there places op.0 place at);
+      functions = is.functions;
       laid = is.laid;
       runs = is.runs;
       method = m.0;
@@ -60,3 +46,27 @@ body_starts p laid places is op place at there =
       begins = m.3;
       within = place_within (program_view p) laid place m.0 is.runs stands;
     }
+
+-- what stands somewhere begins at a place
+begins_at : (c : Code) (s : Option ℕ) (xs : List Placed) → StandsAt c s xs → (start : ℕ) × (s ≡ Some start) × HasAt c start xs
+begins_at c None xs h = absurd h
+begins_at c (Some start) xs h = (start, refl, h)
+
+-- an operation that fits has a place, which 32 bits hold
+pub place_told : (p : Program) (laid : Laid) (places : List ℕ) → IsCoded p laid places → (op : OpId) (m : PlainMethod) → slice_get (program_view p).ops op.0 ≡ Some m → FitsMethod (program_view p) true m → (place : ℕ) × (slice_get places op.0 ≡ Some place) × (place < 4294967295)
+place_told p laid places is op m there fits =
+    let s = begins_at (code_seen laid.code) (slice_get (code_seen laid.code).ops op.0) (operation_code (program_view p) m) (is.laid.ops op.0 m there).0 in
+    let within = place_within (program_view p) laid s.0 m is.runs s.2 in
+    (s.0, is.all op.0 s.0 m there fits s.1, omega (arith, within, is.runs.few))
+
+pub has_no_body : (p : Program) (laid : Laid) (places : List ℕ) → IsCoded p laid places → (op : OpId) → slice_get places op.0 ≡ None → (m : PlainMethod) → slice_get (program_view p).ops op.0 ≡ Some m → FitsMethod (program_view p) true m → ⊥
+has_no_body p laid places is op none m there fits =
+    let t = place_told p laid places is op m there fits in
+    let e : None ≡ Some t.0 = sym none ∙ t.1 in
+    absurd (cc)
+
+pub has_no_place : (p : Program) (laid : Laid) (places : List ℕ) → IsCoded p laid places → (op : OpId) (place : ℕ) → slice_get places op.0 ≡ Some place → place ≡ 4294967295 → (m : PlainMethod) → slice_get (program_view p).ops op.0 ≡ Some m → FitsMethod (program_view p) true m → ⊥
+has_no_place p laid places is op place at none m there fits =
+    let t = place_told p laid places is op m there fits in
+    let same : place ≡ t.0 = same_Some place t.0 (sym at ∙ t.1) in
+    absurd (omega (arith, same, none, t.2))

@@ -2,8 +2,8 @@
 use Rattle.std.proofs.Common.{◌≡◌, List, [], ◌∷◌, ◌++◌, refl}
 use Rattle.ca_model.specs.declared.value.Slot.{Slot}
 use Rattle.ca_model.specs.Slots.{put_slot}
-use Rattle.ca_section.specs.declared.olds.Old.{Old}
-use Rattle.ca_section.specs.Olds.{put_back, AllThere}
+use Rattle.ca_undo.specs.declared.olds.Old.{Old}
+use Rattle.ca_undo.specs.Olds.{put_back, AllThere}
 
 pub back_later : (later olds : List Old) (ss : List Slot) → put_back (later ++ olds) ss ≡ put_back olds (put_back later ss)
 back_later [] olds ss = refl

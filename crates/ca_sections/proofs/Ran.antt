@@ -32,3 +32,4 @@ went_so h c rows s t (halt.Traps kind) r same (inl is) halted =
 went_so h c rows s t (halt.Traps kind) r same (inr is) halted = subst (λ r. Went h (code_seen c) s r t) (sym is) tt
 went_so h c rows s t halt.Leaves r same is halted = subst (λ r. Went h (code_seen c) s r t) (sym is) tt
 went_so h c rows s t halt.Fails r same is halted = subst (λ r. Went h (code_seen c) s r t) (sym is) tt
+went_so h c rows s t halt.Memory r same is halted = subst (λ r. Went h (code_seen c) s r t) (sym is) tt

@@ -13,8 +13,8 @@ use Rattle.ca_parallel.specs.declared.op.Op.{Op}
 use Rattle.ca_parallel.specs.Calls.{invocation_of, invocations_of}
 use Rattle.std.specs.Prelude.{IfOk, OnErr, pos}
 use Rattle.ca_base.specs.declared.faults.Memory.{Memory as NoMemory}
-use Rattle.ca_section.specs.declared.olds.Old.{Old}
-use Rattle.ca_section.specs.Olds.{put_back, AllThere}
+use Rattle.ca_undo.specs.declared.olds.Old.{Old}
+use Rattle.ca_undo.specs.Olds.{put_back, AllThere}
 use Rattle.ca_code_laws.specs.Known.{IsKnown}
 use Rattle.ca_code_laws.specs.Machine.{State, Outcome, Ends}
 use Rattle.ca_code_laws.specs.Machine as Stopped

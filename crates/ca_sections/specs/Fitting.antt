@@ -50,14 +50,13 @@ OpsBegin p starts places = (i place : ℕ) → slice_get places i ≡ Some place
 abbrev pub OpsStand : PlainProgram → List ℕ → List ℕ → Type 0
 OpsStand p starts places = (i start : ℕ) (m : PlainMethod) → slice_get p.ops i ≡ Some m → FitsMethod p true m → slice_get starts i ≡ Some start → slice_get places i ≡ Some start
 
--- The program is laid out in the code, which is run. Where there are places, operations have one that fit, and no others, and all value
--- methods fit.
+-- The program is laid out in the code, which is run. All value methods fit, and the operations that fit have a place, and no others.
 pub record IsCoded (p : Program) (on : Laid) (places : List ℕ) : Type 0 where
-  pub functions : 0 < length places → FunctionsFit (program_view p)
+  pub functions : FunctionsFit (program_view p)
   pub laid : IsLaidOut (program_view p) (code_seen on.code)
   pub runs : Runs (code_seen on.code) on.code.rows.items on.ops.items
   pub each : OpsBegin (program_view p) on.code.ops.items places
-  pub all : 0 < length places → OpsStand (program_view p) on.code.ops.items places
+  pub all : OpsStand (program_view p) on.code.ops.items places
 
 -- The body of an operation that fits begins at this place of a code, in which the program is laid out and which is run. Something is
 -- run there.

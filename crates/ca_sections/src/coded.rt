@@ -1,14 +1,16 @@
 //! A program with its code, by which sections run.
 
-ghost use Rattle.std.specs.Prelude.{◌≡◌, true, IfOk, IfSome, slice_get};
+ghost use Rattle.std.specs.Prelude.{◌≡◌, true, IfNone, IfOk, IfSome, Some, slice_get};
+ghost use Rattle.ca_program.specs.Plain.{PlainMethod};
 ghost use Rattle.ca_program.specs.View.{program_view};
+ghost use Rattle.ca_meaning.specs.ProgramTyped.{ProgramTyped};
 ghost use Rattle.ca_code.specs.Codes.{code_seen};
-ghost use Rattle.ca_code_laws.specs.Fitting.{FunctionsFit};
+ghost use Rattle.ca_code_laws.specs.Fitting.{FitsMethod, FunctionsFit};
 ghost use Rattle.ca_code_laws.specs.Told.{IsLaidOut};
 ghost use Rattle.ca_sections.specs.Fitting.{Starts};
 ghost use Rattle.ca_selection.specs.Ops.{Runs};
 
-use crate::fits::{NONE, all_fit, places_of};
+use crate::fits::{NONE, places_of};
 use ca_program::{OpId, Program};
 use ca_steps::Laid;
 use std::alloc::{AllocError, Global};
@@ -29,12 +31,12 @@ fn place_of(places: &[u32], index: u32) -> Option<u32>
     places.get(index as usize).copied()
 }
 
-/// A program and its code. Contracts see the program.
+/// A checked program and its code. Contracts see the program.
 #[derive(Drop)]
 pub struct Coded<'a> {
     pub(crate) program: &'a Program,
     pub(crate) laid: &'a Laid<'a>,
-    /// Where the body of each operation begins that sections run; of others `NONE`. None where no section is run.
+    /// Where the body of each operation begins that sections run; of others `NONE`.
     pub(crate) places: Vec<u32>,
 }
 
@@ -54,38 +56,23 @@ impl<'a> Model for Coded<'a> {
 }
 
 impl<'a> Coded<'a> {
-    /// A program with this code. It wants memory where a value method has a body that isn't a checked program's.
+    /// A checked program with this code.
     pub fn of(
         alloc: Global,
         program: &'a Program,
         laid: &'a Laid<'a>,
     ) -> Result<Coded<'a>, AllocError>
+        requires typed { ProgramTyped (program_view program.now) }
         requires laid { IsLaidOut (program_view program.now) (code_seen laid.now.code) }
         requires runs { Runs (code_seen laid.now.code) laid.now.code.rows.items laid.now.ops.items }
         ensures { IfOk result (λ c. c ≡ program.now) }
     {
-        if !all_fit(program) {
-            return Err(AllocError);
-        }
         let places = places_of(alloc, program, laid.code.ops.as_slice())?;
         Ok(Coded {
             program,
             laid,
             places,
         })
-    }
-
-    /// A program with this code, of which no section is run: each wants memory.
-    pub fn without_sections(alloc: Global, program: &'a Program, laid: &'a Laid<'a>) -> Coded<'a>
-        requires laid { IsLaidOut (program_view program.now) (code_seen laid.now.code) }
-        requires runs { Runs (code_seen laid.now.code) laid.now.code.rows.items laid.now.ops.items }
-        ensures { result ≡ program.now }
-    {
-        Coded {
-            program,
-            laid,
-            places: Vec::new(alloc),
-        }
     }
 
     /// The program.
@@ -95,10 +82,11 @@ impl<'a> Coded<'a> {
         self.program
     }
 
-    /// The body of an operation, if sections run it.
+    /// The body of an operation, if it fits; each separable operation has one that does.
     #[inline(always)]
     pub fn body(&self, op: OpId) -> Option<Start<'a>>
-        ensures { IfSome result (λ s. Starts (program_view self.now) op s.laid.now s.place) }
+        ensures some { IfSome result (λ s. Starts (program_view self.now) op s.laid.now s.place) }
+        ensures none { IfNone result ((m : PlainMethod) → slice_get (program_view self.now).ops op.0 ≡ Some m → FitsMethod (program_view self.now) true m → ⊥) }
     {
         match place_of(self.places.as_slice(), op.0) {
             Some(place) => {
@@ -114,11 +102,11 @@ impl<'a> Coded<'a> {
         }
     }
 
-    /// Whether sections are run; then each value method has a body that fits.
+    /// The program, each of whose value methods has a body that fits.
     #[inline(always)]
-    pub(crate) fn functions_fit(&self) -> bool
-        ensures { result ≡ true → FunctionsFit (program_view self.now) }
+    pub(crate) fn fitting(&self) -> &'a Program
+        ensures { FunctionsFit (program_view self.now) }
     {
-        self.places.len() > 0
+        self.program
     }
 }

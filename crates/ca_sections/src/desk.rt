@@ -2,13 +2,12 @@
 
 ghost use Rattle.std.specs.Prelude.{◌≡◌, ◌++◌, [], IfOk, OnErr};
 
-use crate::all_olds::AllOlds;
 use ca_base::Memory;
 use ca_model::{Slots, Value};
 use ca_parallel::{Arguments, HELD, Op};
 use ca_program::FieldInfo;
-use ca_section::Olds;
 use ca_steps::Frames;
+use ca_undo::Olds;
 use std::alloc::{AllocError, Global};
 use std::mem;
 
@@ -30,7 +29,7 @@ pub struct Desk {
     /// Whose memory serves what sections list. What it holds is no matter.
     pub(crate) list: Vec<Op>,
     /// Whose memory serves the old values of several sections. What it holds is no matter.
-    pub(crate) room: AllOlds,
+    pub(crate) room: Olds,
 }
 
 /// No slots, for a section that has none in hand. They take no memory.
@@ -51,7 +50,7 @@ impl Desk {
             values: Vec::new(alloc),
             spare: Vec::new(alloc),
             list: Vec::new(alloc),
-            room: AllOlds::new(alloc),
+            room: Olds::new(alloc),
         })
     }
 
@@ -75,17 +74,17 @@ impl Desk {
     }
 
     /// No old values of several sections yet, in memory that served before.
-    pub fn take_room(&mut self, alloc: Global) -> AllOlds
+    pub fn take_room(&mut self, alloc: Global) -> Olds
         ensures none { result ≡ [] }
         ensures state { self.new.state ≡ self.old.state }
     {
-        let mut all = mem::replace(&mut self.room, AllOlds::new(alloc));
+        let mut all = mem::replace(&mut self.room, Olds::new(alloc));
         all.forget();
         all
     }
 
     /// Takes old values that are used no more, for their memory.
-    pub fn give_back_room(&mut self, all: AllOlds)
+    pub fn give_back_room(&mut self, all: Olds)
         ensures { self.new.state ≡ self.old.state }
     {
         self.room = all;
@@ -93,12 +92,12 @@ impl Desk {
 
     /// Moves the old values of the desk's last section, which was done, to those of sections before it on the same object.
     /// Without memory for it both are as before.
-    pub fn keep_olds(&mut self, all: &mut AllOlds) -> Result<(), AllocError>
+    pub fn keep_olds(&mut self, all: &mut Olds) -> Result<(), AllocError>
         ensures added { IfOk result (λ _. all.new ≡ self.old.state.olds ++ all.old) }
         ensures none { IfOk result (λ _. self.new.state.olds ≡ []) }
         ensures kept { OnErr result ((all.new ≡ all.old) × (self.new.state.olds ≡ self.old.state.olds)) }
     {
-        all.add(&mut self.state.olds)
+        all.add_later(&mut self.state.olds)
     }
 
     /// Takes an operation that was listed and is used no more, for its memory, if it has any and there is room for it.

@@ -3,8 +3,8 @@
 //! The section of an operation is what its body does to the receiver alone: own accesses are made in an object
 //! that is handed in, every other read in a heap that stays as it is, and each call is listed instead of made
 //! (`ca_meaning/specs/Sections.antt`). `section` works on the object in place and puts it back on every answer
-//! but `Done`, by the old values of `ca_section`; so no object is copied. Behind Done `Desk::undo` puts it back too, and
-//! `AllOlds` undoes several sections. One that puts nothing needs no object: `section_frozen` reads the heap alone, and
+//! but `Done`, by its old values (`ca_undo`); so no object is copied. Behind Done `Desk::undo` puts it back too, and
+//! `Desk::keep_olds` keeps the old values of several sections. One that puts nothing needs no object: `section_frozen` reads the heap alone, and
 //! `lock_row` tells for which operations it serves.
 //! `section_of_loop` does the same for a call loop of serial code and hands its locals back; `section_loop` finds
 //! the loop by its number. `specs/Answers.antt` has what the answers say, `specs/Running.antt` how a section in
@@ -18,7 +18,6 @@
 #![tactic(auto)]
 
 mod access;
-mod all_olds;
 mod coded;
 mod desk;
 mod find;
@@ -33,11 +32,10 @@ mod running;
 mod stop;
 
 pub use access::{InSection, Own, Stand};
-pub use all_olds::AllOlds;
 pub use coded::{Coded, Start};
 pub use desk::Desk;
 pub use fits::Body;
 pub use loop_code::{LoopPlace, with_loops};
-pub use loops::{section_loop, section_of_loop};
+pub use loops::{first_of_loop, section_loop, section_of_loop};
 pub use operations::{SectionAnswer, section, section_frozen};
 pub use rows::lock_row;

@@ -8,7 +8,7 @@ ghost use Rattle.ca_meaning.specs.Sections.{section};
 ghost use Rattle.ca_parallel.specs.Bodies.{targets_of_all};
 ghost use Rattle.ca_code.specs.Codes.{code_seen};
 ghost use Rattle.ca_code_laws.specs.Told.{IsLaidOut};
-ghost use Rattle.ca_section.specs.Olds.{put_back, AllThere};
+ghost use Rattle.ca_undo.specs.Olds.{put_back, AllThere};
 ghost use Rattle.ca_model.specs.declared.value.Object.{Object};
 ghost use Rattle.ca_sections.specs.declared.operations.SectionAnswer.TheVariants.{Done};
 ghost use Rattle.ca_sections.specs.Answers.{SectionIs, FrozenIs, CanUndo};

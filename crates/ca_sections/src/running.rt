@@ -2,7 +2,7 @@
 
 ghost use Rattle.std.specs.Prelude.{◌≡◌, ◌<◌, IfSome, length, map, slice_get};
 ghost use Rattle.ca_code.specs.Codes.{code_seen};
-ghost use Rattle.ca_section.specs.Olds.{AllThere};
+ghost use Rattle.ca_undo.specs.Olds.{AllThere};
 ghost use Rattle.ca_selection.specs.Ops.{Runs};
 ghost use Rattle.ca_steps.specs.Stands.{back_seen, here_state};
 ghost use Rattle.ca_steps.specs.Handed.{IsFirst};
@@ -44,6 +44,7 @@ fn ended_as(halt: Halt, rows: &[Row<'_>], at: usize) -> Result<(), Stop>
         },
         Halt::Leaves => Err(Stop::Memory),
         Halt::Fails => Err(Stop::Memory),
+        Halt::Memory => Err(Stop::Memory),
     }
 }
 

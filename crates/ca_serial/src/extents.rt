@@ -73,6 +73,15 @@ pub trait Extents {
     fn in_order(&self, heap: &Heap, mark: Mark) -> bool
         ensures any { result ≡ true → (p : PlainProgram) (h : List Object) (is : List Invocation) (budget : ℕ) → Accounts (account self.now) p h is budget (account self.now) };
 
+    /// Within how many steps the first calls of a marked loop are listed, which `gains` looks at. A loop that is listed within these, and
+    /// any one where they are the most that there are, is listed whole and run.
+    fn first_steps(&self, mark: Mark) -> u64;
+
+    /// Whether it gains where it is handed the calls of a marked loop, of which these are the first. Where it doesn't nothing is handed,
+    /// and it is asked anew whether the run goes on into the loop: there it is to say so.
+    fn gains(&mut self, program: &Coded<'_>, heap: &Heap, first: &[Op], budget: u64) -> bool
+        ensures kept { account self.new ≡ account self.old };
+
     /// A call on this object is about to run within a marked call or loop: the run went on into that, or its list was declined.
     fn pass(&self, object: u32);
 }
@@ -119,6 +128,14 @@ impl Extents for NoExtents {
 
     fn in_order(&self, _heap: &Heap, _mark: Mark) -> bool {
         false
+    }
+
+    fn first_steps(&self, _mark: Mark) -> u64 {
+        u64::MAX
+    }
+
+    fn gains(&mut self, _program: &Coded<'_>, _heap: &Heap, _first: &[Op], _budget: u64) -> bool {
+        true
     }
 
     fn pass(&self, _object: u32) {}

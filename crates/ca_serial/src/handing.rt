@@ -61,11 +61,14 @@ pub(crate) fn hand_on<R: Threads + Wait + Sync, E: Extents>(
             frames.pass(rest)?;
             Ok(true)
         }
-        None => match frames.enter_operation(code.ops.as_slice(), op, receiver, first) {
-            Went::On => Ok(true),
-            Went::Spends => Ok(false),
-            _ => Err(Memory),
-        },
+        None => {
+            let went = frames.enter_operation(code.ops.as_slice(), op, receiver, first)?;
+            match went {
+                Went::On => Ok(true),
+                Went::Spends => Ok(false),
+                _ => Err(Memory),
+            }
+        }
     }
 }
 

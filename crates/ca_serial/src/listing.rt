@@ -13,6 +13,7 @@ ghost use Rattle.ca_sections.specs.declared.operations.SectionAnswer.TheVariants
 ghost use Rattle.ca_sections.specs.Answers.{LoopIs, locals_after};
 ghost use Rattle.ca_sections.specs.Extending.{AllStand, StandsAlone};
 ghost use Rattle.ca_code.specs.Codes.{code_seen};
+ghost use Rattle.ca_selection.specs.Ops.{Runs};
 ghost use Rattle.ca_steps.specs.Ways.{BeginsAt};
 ghost use Rattle.ca_serial.specs.clauses.Loops.{GoesPast, HasLoops, begun_notes, locals_at, notes_of, section_at};
 
@@ -22,9 +23,9 @@ use crate::targets::puts_nothing;
 use ca_base::Memory;
 use ca_model::{Heap, Value};
 use ca_parallel::Op;
-use ca_program::{Stmt, ValueType};
-use ca_sections::{Coded, Desk, LoopPlace, SectionAnswer, section_of_loop};
-use ca_steps::{Frames, InRun, Laid};
+use ca_program::{Stmt, StmtForm, ValueType};
+use ca_sections::{Coded, Desk, LoopPlace, SectionAnswer, first_of_loop, section_of_loop};
+use ca_steps::{Frames, InRun, Laid, Mark};
 use std::alloc::Global;
 use std::sync::Wait;
 use std::thread::Threads;
@@ -85,6 +86,39 @@ impl Lists {
         )?;
         Ok(answer)
     }
+
+    /// Lists the first calls of the loop that begins where the machine stands, those that it comes to within so many steps, in place of
+    /// what was listed before. Whether they are all.
+    fn fill_first<'a>(
+        &mut self,
+        alloc: Global,
+        laid: &Laid<'a>,
+        places: &[LoopPlace<'a>],
+        heap: &Heap,
+        frames: &Frames,
+        steps: u64,
+    ) -> Result<bool, Memory>
+        requires runs { Runs (code_seen laid.now.code) laid.now.code.rows.items laid.now.ops.items }
+    {
+        let Some(own) = place_in(places, frames.at) else {
+            return Err(Memory);
+        };
+        self.desk.give_back_all(&mut self.listed);
+        self.values.clear();
+        frames.locals(own.types, &mut self.values)?;
+        first_of_loop(
+            &mut self.desk,
+            alloc,
+            laid,
+            own.place,
+            heap,
+            frames.this(),
+            self.values.as_slice(),
+            own.types,
+            steps,
+            &mut self.listed,
+        )
+    }
 }
 
 /// The place of the code of the loop that is handed on here. Loops stand in the order in which they are handed on.
@@ -109,6 +143,47 @@ fn place_in<'a>(places: &[LoopPlace<'a>], at: usize) -> Option<LoopPlace<'a>>
         }
     }
     None
+}
+
+/// The mark of a loop.
+fn mark_of(s: &Stmt) -> Option<Mark> {
+    match &s.kind {
+        StmtForm::For(site, _, _, _, _, _) => Some(Mark::Loop(*site)),
+        _ => None,
+    }
+}
+
+/// Whether an engine gains nothing where it is handed the calls of a loop that begins, as it says itself by the first of them. Nothing is
+/// handed by this.
+pub(crate) fn lets_go<'a, E: Extents>(
+    alloc: Global,
+    coded: &Coded<'_>,
+    laid: &Laid<'a>,
+    places: &[LoopPlace<'a>],
+    heap: &Heap,
+    frames: &Frames,
+    lists: &mut Lists,
+    s: &Stmt,
+    engine: &mut E,
+) -> bool
+    requires runs { Runs (code_seen laid.now.code) laid.now.code.rows.items laid.now.ops.items }
+    ensures account { E.account engine.new ≡ E.account engine.old }
+{
+    let Some(mark) = mark_of(s) else {
+        return false;
+    };
+    let all = frames.left();
+    let steps = engine.first_steps(mark);
+    if steps >= all || !puts_nothing(s) {
+        return false;
+    }
+    match lists.fill_first(alloc, laid, places, heap, frames, steps) {
+        Ok(false) => {
+            let gains = engine.gains(coded, heap, lists.listed.as_slice(), all);
+            !gains
+        }
+        _ => false,
+    }
 }
 
 /// Goes past a loop that begins, by an engine that runs the calls that it lists; where they can't be listed or the engine declines, into

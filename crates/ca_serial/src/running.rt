@@ -12,10 +12,8 @@ ghost use Rattle.ca_parallel.specs.Lists.{no_marks, lists};
 ghost use Rattle.ca_parallel.specs.Marks.{SoundMarks};
 ghost use Rattle.ca_parallel.specs.Notes.{NoteGood};
 ghost use Rattle.ca_code.specs.Codes.{code_seen};
-ghost use Rattle.ca_code_laws.specs.Told.{IsLaidOut};
 ghost use Rattle.ca_sections.specs.Extending.{AllStand, Extended};
 ghost use Rattle.ca_code_laws.specs.Runs.{beginning};
-ghost use Rattle.ca_selection.specs.Ops.{Runs};
 ghost use Rattle.ca_steps.specs.Stands.{state_of};
 ghost use Rattle.ca_serial.specs.Runs.{run_with, prints_of, OnWrite};
 ghost use Rattle.ca_serial.specs.clauses.Driving.{Drives, IsMade, MayDrive};
@@ -24,7 +22,7 @@ use crate::extents::Extents;
 use crate::handing::hand_on;
 use crate::heeding::lay_out_marked;
 use crate::lending::go_on;
-use crate::listing::{Lists, list_on};
+use crate::listing::{Lists, lets_go, list_on};
 use crate::print::print_line;
 use ca_base::{Memory, Sink};
 use ca_code::{Code, lay_out_once};
@@ -143,23 +141,6 @@ fn nothing_is_marked(marks: &Marks) -> bool
     no_calls(marks) & no_loops(marks)
 }
 
-/// The program with its code, whose bodies are asked where anything is handed on.
-fn coded_of<'a>(
-    alloc: Global,
-    program: &'a Program,
-    marks: &Marks,
-    laid: &'a Laid<'a>,
-) -> Result<Coded<'a>, AllocError>
-    requires laid { IsLaidOut (program_view program.now) (code_seen laid.now.code) }
-    requires runs { Runs (code_seen laid.now.code) laid.now.code.rows.items laid.now.ops.items }
-    ensures { IfOk result (λ c. c ≡ program.now) }
-{
-    if nothing_is_marked(marks) {
-        return Ok(Coded::without_sections(alloc, program, laid));
-    }
-    Coded::of(alloc, program, laid)
-}
-
 /// Lays a program out in which nothing is marked, each body once.
 fn made_once<'a>(alloc: Global, program: &'a Program, marks: &Marks) -> Result<Made<'a>, Memory>
     requires program { ProgramTyped (program_view program.now) }
@@ -205,7 +186,7 @@ fn run_made<'a, R: Threads + Wait + Sync, E: Extents, K: Sink>(
     requires made { IsMade marks.now (program_view program.now) laid.now places.now }
     ensures { Drives E.Accounts (program_view program.now) marks.now budget result (E.account engine.old) (E.account engine.new) (K.written sink.old) (K.written sink.new) (K.faults sink.old) (K.faults sink.new) }
 {
-    let Ok(coded) = coded_of(alloc, program, marks, laid) else {
+    let Ok(coded) = Coded::of(alloc, program, laid) else {
         return Err(RunError::Memory);
     };
     run_coded(
@@ -302,6 +283,11 @@ fn run_all<'a, R: Threads + Wait + Sync, E: Extents, K: Sink>(
                 }
             }
             Event::Begins(count, line, s, types) => {
+                if lets_go(
+                    alloc, coded, laid, places, &run.heap, frames, listing, s, engine,
+                ) {
+                    continue;
+                }
                 if let Err(_) = list_on(
                     rt, alloc, coded, laid, places, run, frames, listing, count, line, s, types,
                     engine,
@@ -318,6 +304,7 @@ fn run_all<'a, R: Threads + Wait + Sync, E: Extents, K: Sink>(
                 });
             }
             Event::Fails => return Err(RunError::Memory),
+            Event::Memory => return Err(RunError::Memory),
         }
     }
     unreachable!()

@@ -14,12 +14,15 @@ pub mod Halting
 pub mod Listing
 pub mod Creating
 pub mod Opped
+mod Powers
 pub mod Adding
 pub mod Arms
 pub mod Forms
 pub mod Lacked
+pub mod Failing
 pub mod Reaching
 pub mod Turning
+pub mod Undone
 pub mod Handing
 pub mod Ways
 mod Examples

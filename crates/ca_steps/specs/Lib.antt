@@ -11,5 +11,6 @@ pub mod Stands
 pub mod Stops
 pub mod Telling
 pub mod Ties
+pub mod Undone
 pub mod Ways
 pub mod Wide

@@ -1,6 +1,6 @@
 //! A run, from one event to the next: it goes on into what is handed on, where its door lets it in.
 
-ghost use Rattle.std.specs.Prelude.{◌≡◌, ℕ, List};
+ghost use Rattle.std.specs.Prelude.{◌≡◌, ℕ, List, slice_get};
 ghost use Rattle.ca_program.specs.declared.program.ValueType.{ValueType as Typing};
 ghost use Rattle.ca_program.specs.Instructions.{Code as PlainCode};
 ghost use Rattle.ca_program.specs.Plain.{Statement};
@@ -8,7 +8,9 @@ ghost use Rattle.ca_program.specs.View.{program_view};
 ghost use Rattle.ca_code.specs.Codes.{code_seen};
 ghost use Rattle.ca_selection.specs.Ops.{Runs};
 ghost use Rattle.ca_steps.specs.Ways.{BeginsAt, HandsAt};
+ghost use Rattle.ca_steps.specs.Here.{WhereLeaves};
 ghost use Rattle.ca_steps.specs.Passing.{Arrives, HaltsPast, WentIn};
+ghost use Rattle.ca_steps.specs.Wide.{IsElsewhere};
 
 use crate::calls::Went;
 use crate::doors::{Door, Mark};
@@ -56,8 +58,11 @@ fn enter_marked<D: Door>(
     }
     door.pass(receiver);
     match frames.enter_operation(code.ops.as_slice(), op, receiver, first) {
-        Went::On => None,
-        _ => Some(Halt::Fails),
+        Ok(went) => match went {
+            Went::On => None,
+            _ => Some(Halt::Fails),
+        },
+        Err(_) => Some(Halt::Memory),
     }
 }
 
@@ -119,6 +124,7 @@ fn run_inside<D: Door>(
 ) -> Halt
     requires laid { Runs (code_seen laid.now.code) laid.now.code.rows.items laid.now.ops.items }
     ensures halted { HaltsPast (D.Lets door.now) (program_view run.old.run.program.now) (code_seen laid.now.code) frames.old run.old.run.heap result frames.new run.new.run.heap }
+    ensures elsewhere { WhereLeaves result (IsElsewhere (slice_get (code_seen laid.now.code).items frames.new.at)) }
     ensures program { run.new.run.program.now ≡ run.old.run.program.now }
 {
     'marks: for _ in 0..u64::MAX {
@@ -132,7 +138,7 @@ fn run_inside<D: Door>(
             _ => return halt,
         }
     }
-    Halt::Fails
+    Halt::Memory
 }
 
 /// Runs until something is printed or handed on and not let in, or the run ends.
@@ -152,6 +158,7 @@ fn run_past<'a, R: Wait, D: Door>(
             Halt::Spends => return Event::Spends,
             Halt::Ends => return Event::Ends,
             Halt::Fails => return Event::Fails,
+            Halt::Memory => return Event::Memory,
             Halt::Leaves => {
                 if let Some(event) = act_slowly(&mut run.run, &laid.code, frames) {
                     return event;
@@ -159,7 +166,7 @@ fn run_past<'a, R: Wait, D: Door>(
             }
         }
     }
-    Event::Fails
+    Event::Memory
 }
 
 /// Runs until something is printed or handed on, or the run ends. What is handed on and let in by the door runs here, and the calls within

@@ -1,7 +1,8 @@
 //! The world of a run: everything is read and put in the heap.
 
-ghost use Rattle.std.specs.Prelude.{◌≡◌, true};
+ghost use Rattle.std.specs.Prelude.{◌≡◌, true, false};
 ghost use Rattle.ca_meaning.specs.Serial.{put_own};
+ghost use Rattle.ca_steps.specs.Lacking.{LacksItem};
 
 use crate::access::{Access, Look};
 use crate::frames::receiver_of;
@@ -13,7 +14,8 @@ use ca_program::{FieldId, Program};
 /// Puts a value into an item of a field of the object that a value names, if there is one.
 #[inline(always)]
 pub(crate) fn store(heap: &mut Heap, this: Value, f: FieldId, item: u32, value: Value) -> bool
-    ensures { result ≡ true → heap.new ≡ put_own heap.old this f item value }
+    ensures put { result ≡ true → heap.new ≡ put_own heap.old this f item value }
+    ensures none { result ≡ false → LacksItem heap.old this f item }
 {
     let Value::Ref(n) = this else {
         return false;

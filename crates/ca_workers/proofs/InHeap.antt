@@ -23,9 +23,9 @@ use Rattle.ca_parallel.specs.Parallel.{ParallelFrom}
 use Rattle.ca_order_laws.specs.Order.{AllInside}
 use Rattle.ca_order_laws.specs.Pending.{CompleteRun}
 use Rattle.ca_order_laws.proofs.SerialOrder.{depth_first}
-use Rattle.ca_run.specs.declared.puts.Kept.{Kept}
-use Rattle.ca_run.specs.InPlace.{CallsEnd, Continues}
-use Rattle.ca_run.specs.Puts.{before}
+use Rattle.ca_undo.specs.declared.puts.Kept.{Kept}
+use Rattle.ca_sections.specs.InOrder.{CallsEnd, Continues}
+use Rattle.ca_undo.specs.Puts.{before}
 use Rattle.ca_workers.specs.clauses.Ahead.{EndsAhead, WaitFrom, with_steps}
 use Rattle.ca_workers.specs.clauses.Runs.{IsSetting, MayWait, NoneWithin, Placed}
 use Rattle.ca_workers.proofs.Beginning.{known_setting, known_waits, own_setting, own_waits}

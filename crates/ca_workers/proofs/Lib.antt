@@ -1,6 +1,5 @@
 pub mod Places
 pub mod Quotas
-pub mod Copies
 pub mod Steps
 pub mod Behind
 pub mod Logs
@@ -10,7 +9,6 @@ pub mod Stored
 pub mod Moving
 pub mod Beginning
 pub mod Parts
-pub mod Roots
 pub mod Adding
 pub mod Lent
 pub mod InHeap

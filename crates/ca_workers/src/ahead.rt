@@ -6,19 +6,17 @@ ghost use Rattle.ca_model.specs.Typed.{TypedHeap};
 ghost use Rattle.ca_meaning.specs.ProgramTyped.{ProgramTyped};
 ghost use Rattle.ca_meaning.specs.WellTyped.{AllWellTyped};
 ghost use Rattle.ca_parallel.specs.Calls.{invocations_of, operation_of};
-ghost use Rattle.ca_run.specs.Puts.{before};
+ghost use Rattle.ca_undo.specs.Puts.{before};
 ghost use Rattle.ca_workers.specs.clauses.Ahead.{EndsAhead, RanFront, WaitFrom};
 ghost use Rattle.ca_workers.specs.clauses.Runs.{Placed};
 
-use crate::neighbours::Neighbours;
 use crate::parallel::Parallel;
-use crate::patience::Patience;
 use crate::tasks::{behind, split_behind};
-use crate::weights::{Known, calls_none, turn_of, weight_of};
 use ca_base::{Gate, Memory};
 use ca_model::Heap;
 use ca_parallel::Op;
 use ca_run::OneWorker;
+use ca_schedule::{Known, Neighbours, Patience, calls_none, turn_of, weight_of};
 use ca_sections::Coded;
 use std::alloc::Global;
 use std::sync::Wait;
@@ -68,11 +66,12 @@ fn run_front<G: Gate>(
             break;
         }
         let weight = weight_of(known, op);
+        let turn = turn_of(known, op);
         let passes = neighbours.pass_with(alloc, program.program(), known, op);
         let ran = one.run_more(program, heap, op, still, passes)?;
         match ran {
             Some(less) => {
-                patience.went(still.saturating_sub(less), weight);
+                patience.went(still.saturating_sub(less), weight, turn);
                 still = less;
                 count += 1;
             }
@@ -106,7 +105,7 @@ impl<'g, G: Gate + Sync> Parallel<'g, G> {
             heap,
             calls,
             left,
-            &mut self.tables.known,
+            self.schedule.known(),
             patience,
         ) {
             Ok(Some(front)) => Ok(Some(front)),

@@ -11,15 +11,13 @@ ghost use Rattle.ca_run.specs.Turns.{RanTo};
 ghost use Rattle.ca_workers.specs.clauses.Ahead.{with_steps};
 ghost use Rattle.ca_workers.specs.clauses.Runs.{IsSetting, MayWait, Placed};
 
-use crate::neighbours::takes_lock;
 use crate::parallel::{Parallel, desk_of};
-use crate::tasks::extent_of_calls;
-use crate::weights::{Known, calls_in_loop};
 use ca_base::{Gate, Memory};
 use ca_extent::Extent;
 use ca_model::Heap;
 use ca_parallel::Op;
 use ca_program::Program;
+use ca_schedule::{Known, calls_in_loop, extent_of_calls, takes_lock};
 use ca_section::locks;
 use ca_sections::{Coded, Desk, SectionAnswer, section_frozen};
 use std::alloc::Global;
@@ -97,7 +95,7 @@ impl<'g, G: Gate + Sync> Parallel<'g, G> {
         if many {
             return Ok(None);
         }
-        if !opens(self.alloc, program.program(), &mut self.tables.known, first) {
+        if !opens(self.alloc, program.program(), self.schedule.known(), first) {
             return Ok(None);
         }
         let extent = extent_of_calls(self.alloc, program, first)?;
@@ -110,8 +108,7 @@ impl<'g, G: Gate + Sync> Parallel<'g, G> {
         Ok(opened)
     }
 
-    /// Runs a list; where it is one call that only calls others in a loop, and takes no lock, these in its place. Calls that only sum,
-    /// and come to the same objects again and again, begin with a round.
+    /// Runs a list; where it is one call that only calls others in a loop, and takes no lock, these in its place.
     pub(crate) fn run_list<R: Threads + Wait + Sync>(
         &mut self,
         rt: &R,
@@ -127,9 +124,6 @@ impl<'g, G: Gate + Sync> Parallel<'g, G> {
         ensures placed { IfOk result (Placed (program_view program.now) heap.old heap.old (invocations_of first.now) left heap.new) }
         ensures kept { OnErr result (heap.new ≡ heap.old) }
     {
-        if self.begins(first, heap.values()) {
-            return self.run_together(rt, program, heap, first, left);
-        }
         let mut listed = Vec::new(self.alloc);
         let opened = self.open_first(program, heap, first, left, &mut listed)?;
         let steps = match opened {

@@ -16,10 +16,11 @@ ghost use Rattle.ca_workers.specs.clauses.Runs.{NoneWithin};
 
 use crate::parallel::Parallel;
 use crate::rounds::Rounds;
-use crate::tasks::{extent_of_calls, first_tasks};
+use crate::tasks::first_tasks;
 use ca_base::{Gate, Memory};
 use ca_model::Heap;
 use ca_parallel::Op;
+use ca_schedule::extent_of_calls;
 use ca_sections::Coded;
 use ca_serial::ExtentAnswer;
 use ca_trace::Line;

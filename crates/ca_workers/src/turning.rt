@@ -26,13 +26,11 @@ use ca_logs::Task;
 use ca_model::Heap;
 use ca_parallel::Op;
 use ca_replica::summed;
+use ca_schedule::may_copy;
 use ca_sum_pool::{SummedRound, round_summed};
 use std::alloc::AllocError;
 use std::sync::Wait;
 use std::thread::Threads;
-
-/// The most values that the replicas of all workers hold: four times those of the largest heap.
-const MOST_COPIED: u64 = 16_000_000;
 
 /// What waits behind a round: the first ones of the calls that are lent, so many, and tasks behind them; and the steps that it
 /// took.
@@ -41,14 +39,6 @@ pub struct Turn {
     pub lent: usize,
     pub rest: Vec<Task>,
     pub steps: u64,
-}
-
-/// Whether a copy of so many values for each worker isn't too much.
-pub fn may_copy(workers: u32, values: u32) -> bool
-    requires { 0 < workers }
-    ensures { IsTrue result ↔ (values * workers ≤ 16000000) }
-{
-    u64::from(values) <= MOST_COPIED / u64::from(workers)
 }
 
 /// What waits behind a round in cells, whose objects, those that it touched, go beside the heap.

@@ -1,8 +1,8 @@
 -- How tasks of one object are run one after the other, and how what they did is taken back.
 use Rattle.std.specs.Prelude.{◌≡◌, ◌≤◌, ℕ, Bool, true, false, not, List, [], ◌++◌, All, take, drop, length, None}
 use Rattle.ca_meaning.specs.Sections.{done, Outcome}
-use Rattle.ca_section.specs.Olds.{put_back, AllThere}
-use Rattle.ca_section.specs.declared.olds.Old.{Old}
+use Rattle.ca_undo.specs.Olds.{put_back, AllThere}
+use Rattle.ca_undo.specs.declared.olds.Old.{Old}
 use Rattle.ca_sections.specs.Answers.{CanUndo}
 use Rattle.ca_sections.specs.declared.desk.Desk.{Desk}
 use Rattle.ca_model.specs.declared.value.Object.{Object}

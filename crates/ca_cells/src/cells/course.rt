@@ -15,7 +15,8 @@ use crate::adding::{Added, add};
 use ca_base::Memory;
 use ca_logs::{CellLog, Mark, Stop, Task};
 use ca_model::Heap;
-use ca_sections::{AllOlds, Coded, Desk};
+use ca_sections::{Coded, Desk};
+use ca_undo::Olds;
 use std::alloc::Global;
 use std::mem;
 use std::snapshot::Snapshot;
@@ -49,7 +50,7 @@ fn join(list: &mut Vec<Task>, mut more: Vec<Task>) -> bool
 }
 
 /// Takes back what tasks did to a history.
-fn take_back(log: &mut CellLog, mut olds: AllOlds, _found: &Snapshot<CellLog>, mark: Mark)
+fn take_back(log: &mut CellLog, mut olds: Olds, _found: &Snapshot<CellLog>, mark: Mark)
     requires back { Backable olds log.old _found.now.value }
     requires mark { IsMark _found.now.value.entries mark }
     ensures { log.new ≡ _found.now.value }
@@ -99,7 +100,7 @@ impl Cells {
     fn run_behind(
         &self,
         desk: &mut Desk,
-        olds: &mut AllOlds,
+        olds: &mut Olds,
         log: &mut CellLog,
         alloc: Global,
         program: &Coded<'_>,

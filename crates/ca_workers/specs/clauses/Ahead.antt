@@ -9,7 +9,7 @@ use Rattle.ca_parallel.specs.declared.op.Op.{Op}
 use Rattle.ca_parallel.specs.Calls.{invocations_of}
 use Rattle.ca_parallel.specs.Extents.{Extent}
 use Rattle.ca_parallel.specs.ExtentsOf.{ExtentOf}
-use Rattle.ca_run.specs.InPlace.{CallsEnd, Continues}
+use Rattle.ca_sections.specs.InOrder.{CallsEnd, Continues}
 use Rattle.ca_workers.specs.clauses.Runs.{IsSetting, MayWait}
 use Rattle.ca_workers.specs.declared.ahead.Front.{Front}
 

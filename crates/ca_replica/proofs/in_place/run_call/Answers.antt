@@ -6,9 +6,9 @@ use Rattle.ca_meaning.specs.Serial.{fresh}
 use Rattle.ca_parallel.specs.Calls.{invocation_of}
 use Rattle.ca_steps.specs.declared.here.Here.{Here}
 use Rattle.ca_steps.specs.Stands.{here_state}
-use Rattle.ca_run.proofs.InPlace.{call_too_many}
-use Rattle.ca_run.specs.InPlace.{LeftBy}
-use Rattle.ca_run.proofs.Called.{call_told}
+use Rattle.ca_sections.proofs.InOrder.{call_too_many}
+use Rattle.ca_sections.specs.InOrder.{LeftBy}
+use Rattle.ca_sections.proofs.Called.{call_told}
 use Rattle.ca_replica.specs.Applied.{sums}
 use Rattle.ca_replica.specs.InPlace.{Keeps}
 use Rattle.ca_replica.proofs.in_place.run_call.Goals as goal
@@ -66,7 +66,7 @@ returns-in_err-enter g c =
 
 pub run_from-halt-requires : goal.run_from-halt-requires
 run_from-halt-requires g c =
-    let starts = c.in-Some.ensures in
+    let starts = c.in-Some.ensures.some in
     record { laid = starts.runs; within = starts.within; first = (c.in_ok-enter.ensures (program_view c.args.program.now) starts.laid).first; fits = c.requires.keeps }
 
 pub returns-in-Ends : goal.returns-in-Ends
@@ -74,7 +74,7 @@ returns-in-Ends g c =
     let p = program_view c.args.program.now in
     let a = c.args.access.now in
     let h = sums a.ground.extent.now.written a.ground.frozen.now a.copies.now in
-    let starts = c.in-Some.ensures in
+    let starts = c.in-Some.ensures.some in
     let least : c.args.left ≡ suc (c.args.left - 1) = omega arith in
     let run = c.run_from-halt in
     let m = run.new.frames in
@@ -100,7 +100,7 @@ returns-in-Traps g c =
     let p = program_view c.args.program.now in
     let a = c.args.access.now in
     let h = sums a.ground.extent.now.written a.ground.frozen.now a.copies.now in
-    let starts = c.in-Some.ensures in
+    let starts = c.in-Some.ensures.some in
     let least : c.args.left ≡ suc (c.args.left - 1) = omega arith in
     let run = c.run_from-halt in
     let m = run.new.frames in
@@ -126,7 +126,7 @@ returns-in-Spends g c =
     let p = program_view c.args.program.now in
     let a = c.args.access.now in
     let h = sums a.ground.extent.now.written a.ground.frozen.now a.copies.now in
-    let starts = c.in-Some.ensures in
+    let starts = c.in-Some.ensures.some in
     let least : c.args.left ≡ suc (c.args.left - 1) = omega arith in
     let run = c.run_from-halt in
     let m = run.new.frames in

@@ -6,7 +6,7 @@ use mir.Val.{SFits, of_z, to_z}
 use Rattle.ca_model.specs.declared.value.Object.{Object}
 use Rattle.ca_model.specs.declared.value.Value.TheVariants.{Long}
 use Rattle.ca_beside.proofs.Present.{changed}
-use Rattle.ca_run.specs.Puts.{restored}
+use Rattle.ca_undo.specs.Puts.{restored}
 use Rattle.ca_replica.specs.InPlace.{HasNumber, IsWritten, Keeps}
 use Rattle.ca_replica.specs.Zeroed.{zeroed_heap}
 use Rattle.ca_replica.proofs.InPlace.{field_at, keeps_over, keeps_put, keeps_same, within_all, written_top}

@@ -4,7 +4,7 @@ use Rattle.ca_model.specs.declared.value.Value.TheVariants.{Long}
 use Rattle.ca_model.specs.Heaps.{stored}
 use Rattle.ca_meaning.specs.Expressions.{one_in, slot_of}
 use Rattle.ca_lists.proofs.Places.{item_there as there_is}
-use Rattle.ca_run.specs.Puts.{restored}
+use Rattle.ca_undo.specs.Puts.{restored}
 use Rattle.ca_steps.specs.Telling.{Adds}
 use Rattle.ca_replica.specs.Applied.{sums}
 use Rattle.ca_replica.specs.InPlace.{IsWritten}

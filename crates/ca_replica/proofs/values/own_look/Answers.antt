@@ -14,7 +14,7 @@ returns-in-Holds c = λ cs olds k line j.
     let ws = c.args.ground.now.extent.now.written in
     let h = c.args.ground.now.frozen.now in
     item_same ws h c.args.ground.now.marks.now cs olds k line c.args.n c.args.f c.args.index j c.in-Holds.place c.in-Holds.value
-    (subst (λ l. Looks line (slot_of h c.args.n c.args.f) c.args.index j l) c.in-Holds.is (rw (to_z-of_z w64 c.args.index small) at (c.look_at-look.ensures line j)))
+    (subst (λ l. Looks line (slot_of h c.args.n c.args.f) c.args.index j l) c.in-Holds.is (rw (to_z-of_z w64 c.args.index small) at (c.look_at-look.ensures.looks line j)))
 
 pub returns-then-stays_slowly : goal.returns-then-stays_slowly
 returns-then-stays_slowly c = λ cs olds k line j.
@@ -23,4 +23,4 @@ returns-then-stays_slowly c = λ cs olds k line j.
     let h = c.args.ground.now.frozen.now in
     subst (λ l. Looks line (slot_of (sums ws h cs) c.args.n c.args.f) c.args.index j l) c.in-Outside.is
     (subst (λ s. Looks line s c.args.index j c.look_at-look.result) (slot_same ws h (sums ws h cs) (sums_many ws h cs) k.constants c.args.n c.args.f (c.stays_slowly.ensures c.if-stays_slowly.true k.marked))
-    (rw (to_z-of_z w64 c.args.index small) at (c.look_at-look.ensures line j)))
+    (rw (to_z-of_z w64 c.args.index small) at (c.look_at-look.ensures.looks line j)))

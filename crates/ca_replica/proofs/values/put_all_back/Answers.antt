@@ -1,6 +1,6 @@
 use Rattle.std.proofs.Common.{refl, sym, ap, subst, ◌∙◌}
 use Rattle.ca_beside.specs.Beside.{present}
-use Rattle.ca_run.specs.Puts.{restored}
+use Rattle.ca_undo.specs.Puts.{restored}
 use Rattle.ca_replica.specs.InPlace.{AllHave}
 use Rattle.ca_replica.proofs.InPlace.{all_have_on}
 use Rattle.ca_replica.proofs.values.put_all_back.Goals as goal

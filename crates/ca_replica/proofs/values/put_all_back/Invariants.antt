@@ -1,7 +1,7 @@
 use Rattle.std.proofs.Common.{◌≡◌, List, length}
 use Rattle.ca_model.specs.declared.value.Object.{Object}
 use Rattle.ca_beside.specs.Beside.{present}
-use Rattle.ca_run.specs.Puts.{restored}
+use Rattle.ca_undo.specs.Puts.{restored}
 use Rattle.ca_replica.specs.InPlace.{AllHave}
 use Rattle.ca_replica.proofs.values.put_all_back.Given as goal
 

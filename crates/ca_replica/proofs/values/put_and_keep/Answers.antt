@@ -3,7 +3,7 @@ use Rattle.std.proofs.lemmas.Int.{to_z-of_z}
 use mir.Val.{SFits}
 use Rattle.ca_model.specs.declared.value.Object.{Object}
 use Rattle.ca_beside.specs.Beside.{present, IsPlace}
-use Rattle.ca_run.specs.Puts.{put_back, restored}
+use Rattle.ca_undo.specs.Puts.{put_back, restored}
 use Rattle.ca_replica.specs.InPlace.{AllHave, AllWritten, HasCopy}
 use Rattle.ca_replica.proofs.InPlace.{all_have_more, all_have_on, all_written_more}
 use Rattle.ca_replica.proofs.Numbers.{number_back, number_put}

@@ -3,13 +3,13 @@ use Rattle.std.proofs.lemmas.Option.{slice_get_within}
 use Rattle.std.specs.Prelude.{slice_get, slice_set}
 use Rattle.ca_model.specs.declared.value.Object.{Object}
 use Rattle.ca_model.specs.Slots.{HasItem}
-use Rattle.ca_section.specs.Olds.{item_in}
+use Rattle.ca_undo.specs.Olds.{item_in}
 use Rattle.ca_order_laws.proofs.Places.{one_some}
 use Rattle.ca_beside.specs.declared.beside.Changed.{Changed}
 use Rattle.ca_beside.specs.Beside.{present, with_value}
 use Rattle.ca_beside.proofs.Present.{changed}
-use Rattle.ca_run.specs.declared.puts.Put.{Put}
-use Rattle.ca_run.specs.Puts.{restored}
+use Rattle.ca_undo.specs.declared.puts.Put.{Put}
+use Rattle.ca_undo.specs.Puts.{restored}
 use Rattle.ca_replica.specs.InPlace.{AllHave, AllWritten, HasCopy}
 use Rattle.ca_replica.proofs.InPlace.{all_have_more, all_written_more, has_after_put, present_stored, put_kept}
 use Rattle.ca_replica.proofs.values.put_at.Goals as goal

@@ -1,7 +1,7 @@
 use Rattle.std.proofs.Common.{◌≡◌, ◌<◌, ◌∙◌, length, refl, sym, ap, true≢false, arith}
 use Rattle.ca_lists.proofs.Places.{item_there}
 use Rattle.ca_model.specs.Heaps.{stored}
-use Rattle.ca_run.specs.Puts.{restored}
+use Rattle.ca_undo.specs.Puts.{restored}
 use Rattle.ca_replica.specs.InPlace.{IsWritten}
 use Rattle.ca_replica.specs.Zeroed.{zeroed_heap}
 use Rattle.ca_replica.proofs.InPlace.{keeps_put, keeps_same}

@@ -4,8 +4,8 @@ use Rattle.ca_meaning.specs.Serial.{fresh}
 use Rattle.ca_parallel.specs.Calls.{invocation_of}
 use Rattle.ca_steps.specs.declared.here.Here.{Here}
 use Rattle.ca_steps.specs.Stands.{here_state}
-use Rattle.ca_run.proofs.InPlace.{call_too_many}
-use Rattle.ca_run.proofs.Called.{call_told}
+use Rattle.ca_sections.proofs.InOrder.{call_too_many}
+use Rattle.ca_sections.proofs.Called.{call_told}
 use Rattle.std.proofs.lemmas.Result.{err_from_is_err_and}
 use Rattle.ca_run.proofs.in_place.run_call.Goals as goal
 
@@ -33,14 +33,14 @@ returns-in_err-enter g c =
 
 pub run_from-halt-requires : goal.run_from-halt-requires
 run_from-halt-requires g c =
-    let starts = c.in-Some.ensures in
+    let starts = c.in-Some.ensures.some in
     record { laid = starts.runs; within = starts.within; first = (c.in_ok-enter.ensures (program_view c.args.program.now) starts.laid).first; fits = tt }
 
 pub returns : goal.returns
 returns g c =
     let p = program_view c.args.program.now in
     let h = c.args.access.now.heap.now in
-    let starts = c.in-Some.ensures in
+    let starts = c.in-Some.ensures.some in
     let least : c.args.left ≡ suc (c.args.left - 1) = omega arith in
     let run = c.run_from-halt in
     let m = run.new.frames in

@@ -3,8 +3,8 @@ use Rattle.std.proofs.lemmas.List.{drop_all}
 use Rattle.std.proofs.lemmas.Result.{err_from_is_err_and}
 use Rattle.ca_program.specs.View.{program_view}
 use Rattle.ca_parallel.specs.Calls.{invocation_of, invocations_of}
-use Rattle.ca_run.specs.InPlace.{CallEnds, Continues}
-use Rattle.ca_run.proofs.InPlace.{all_ran, next_call, none_ran, one_ran, one_stopped}
+use Rattle.ca_sections.specs.InOrder.{CallEnds, Continues}
+use Rattle.ca_sections.proofs.InOrder.{all_ran, next_call, none_ran, one_ran, one_stopped}
 use Rattle.ca_run.proofs.in_place.run_calls.Goals as goal
 
 pub calls-init : goal.calls-init

@@ -1,8 +1,8 @@
 use Rattle.std.proofs.Common.{◌≡◌, drop}
 use Rattle.ca_program.specs.View.{program_view}
 use Rattle.ca_parallel.specs.Calls.{invocations_of}
-use Rattle.ca_run.specs.InPlace.{Continues}
-use Rattle.ca_run.specs.Puts.{before}
+use Rattle.ca_sections.specs.InOrder.{Continues}
+use Rattle.ca_undo.specs.Puts.{before}
 use Rattle.ca_run.proofs.in_place.run_calls.Given as goal
 
 -- so far each was done, and what undoes them stays

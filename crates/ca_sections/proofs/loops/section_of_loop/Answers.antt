@@ -1,4 +1,4 @@
-use Rattle.std.proofs.Common.{ap, ◌∙◌}
+use Rattle.std.proofs.Common.{ap, ◌∙◌, refl}
 use Rattle.ca_program.specs.View.{program_view, statement_view}
 use Rattle.ca_meaning.specs.Sections.{loop_section}
 use Rattle.ca_sections.proofs.Looping.{locals_left, locals_taken}
@@ -15,8 +15,8 @@ returns-in-Done c =
     let is = loop_section p c.args.frozen.now c.args.this ls c.args.line s c.args.left in
     let told = rw c.as_slice.ensures.value at c.in_ok-answer.ensures.answer in
     let left = rw c.as_slice.ensures.value at c.in_ok-answer.ensures.locals in
-    let answer = told p c.args.line s (c.functions_fit.ensures c.if-not-functions_fit.false) c.requires.laid c.requires.there in
-    let locals = left p c.args.line s (c.functions_fit.ensures c.if-not-functions_fit.false) c.requires.laid c.requires.there in
+    let answer = told refl p c.args.line s c.fitting-fitting.ensures c.requires.laid c.requires.there in
+    let locals = left refl p c.args.line s c.fitting-fitting.ensures c.requires.laid c.requires.there in
     record {
       answer = answer;
       locals = λ none. ap (λ v. v.items) c.swap.ensures.y_after ∙ locals_taken c.in_ok-answer.answer c.in-Done.steps is c.args.out.now.items c.run_loop.new.out.items _ ls c.in-Done.is (answer none) (locals none);
@@ -30,7 +30,7 @@ returns-in_default c =
     let ls = c.args.locals.now.items in
     let is = loop_section p c.args.frozen.now c.args.this ls c.args.line s c.args.left in
     let told = rw c.as_slice.ensures.value at c.in_ok-answer.ensures.answer in
-    let answer = told p c.args.line s (c.functions_fit.ensures c.if-not-functions_fit.false) c.requires.laid c.requires.there in
+    let answer = told refl p c.args.line s c.fitting-fitting.ensures c.requires.laid c.requires.there in
     record {
       answer = answer;
       locals = λ none. locals_left c.in_ok-answer.answer is c.args.out.now.items c.run_loop.new.out.items ls c.in_default.not-Done (answer none);

@@ -7,7 +7,7 @@ use Rattle.ca_meaning.specs.Expressions.{slots_in}
 use Rattle.ca_meaning.specs.Sections.{section}
 use Rattle.ca_parallel.specs.Calls.{invocations_of}
 use Rattle.ca_parallel.specs.declared.op.Op.{Op}
-use Rattle.ca_section.specs.Olds.{put_back, AllThere}
+use Rattle.ca_undo.specs.Olds.{put_back, AllThere}
 use Rattle.ca_steps.specs.Lists.{has_some}
 use Rattle.ca_steps.specs.Stands.{back_seen}
 use Rattle.ca_sections.specs.declared.operations.SectionAnswer.TheVariants.{Spent}
@@ -29,7 +29,7 @@ returns-then-left-eq0 c =
 
 pub run-ran-requires : goal.run-ran-requires
 run-ran-requires c =
-    let starts = c.in-Some.ensures in
+    let starts = c.in-Some.ensures.some in
     let entered = c.in_ok-enter.ensures.entered (program_view c.args.program.now) starts.laid in
     record {
       laid = starts.runs;
@@ -49,7 +49,7 @@ shape_of-desk-2 c = sym (c.settle.ensures.same_olds ∙ ap (λ l. l.olds) c.run-
 
 pub returns : goal.returns
 returns c =
-    let starts = c.in-Some.ensures in
+    let starts = c.in-Some.ensures.some in
     let p = program_view c.args.program.now in
     let op = c.args.op.now in
     let entered = c.in_ok-enter.ensures.entered p starts.laid in

@@ -35,7 +35,7 @@ returns-in-On-clause-means g c = λ w into out.
     let x = with_note (in_heap w c.args.run.now.heap) (due_at (code_seen c.args.code.now) m c.args.op c.args.first c.args.receiver ∷ []) m.left in
     call_enters p (code_seen c.args.code.now) m c.args.op c.args.first c.args.receiver c.requires.due c.args.run.now.heap w into out c.ask.new.heap c.enter_operation.new.self
     (rw (c.as_slice.ensures.value, c.in_ok-ops.ensures.calls, c.left-left.ensures, c.in-None.is) at (c.in_ok-answer.ensures.given w))
-    (rw (c.as_slice-in-None.ensures.value, c.in-On.is) at (c.enter_operation.ensures 0 (in_heap w c.args.run.now.heap) x))
+    (rw (c.as_slice-in-None.ensures.value, c.in-On.is) at (c.in_ok-went-in-None.ensures 0 (in_heap w c.args.run.now.heap) x))
 
 pub returns-in-Spends-clause-means : goal.returns-in-Spends-clause-means
 returns-in-Spends-clause-means g c = λ w into out.
@@ -44,7 +44,7 @@ returns-in-Spends-clause-means g c = λ w into out.
     let x = with_note (in_heap w c.args.run.now.heap) (due_at (code_seen c.args.code.now) m c.args.op c.args.first c.args.receiver ∷ []) m.left in
     call_spends p (code_seen c.args.code.now) m c.args.op c.args.first c.args.receiver c.requires.due c.args.run.now.heap w into out c.ask.new.heap
     (rw (c.as_slice.ensures.value, c.in_ok-ops.ensures.calls, c.left-left.ensures, c.in-None.is) at (c.in_ok-answer.ensures.given w))
-    (rw (c.as_slice-in-None.ensures.value, c.in-Spends.is) at (c.enter_operation.ensures 0 (in_heap w c.args.run.now.heap) x))
+    (rw (c.as_slice-in-None.ensures.value, c.in-Spends.is) at (c.in_ok-went-in-None.ensures 0 (in_heap w c.args.run.now.heap) x))
 
 pub returns-in-Some-clause-account : goal.returns-in-Some-clause-account
 returns-in-Some-clause-account g c = rw (c.as_slice.ensures.value, c.in_ok-ops.ensures.calls, c.left-left.ensures) at c.in_ok-answer.ensures.account
@@ -91,3 +91,14 @@ returns-in_err-pass-in-Some g c =
 
 pub returns-clause-account_kept : goal.returns-clause-account_kept
 returns-clause-account_kept g c = inr (rw (c.as_slice.ensures.value, c.in_ok-ops.ensures.calls, c.left-left.ensures) at c.in_ok-answer.ensures.account)
+
+pub returns-in_err-went-in-None : goal.returns-in_err-went-in-None
+returns-in_err-went-in-None g c =
+    let r = c.from_residual-in_err-went-in-None.result in
+    let e = err_from_is_err_and r c.from_residual-in_err-went-in-None.ensures.1 in
+    record {
+      means = none_told _ r e.0 e.1;
+      account = none_done _ r e.0 e.1;
+      account_kept = told_err _ r (inr (rw (c.as_slice.ensures.value, c.in_ok-ops.ensures.calls, c.left-left.ensures) at c.in_ok-answer.ensures.account));
+      program = refl;
+    }

@@ -19,6 +19,12 @@ returns-in-Fails g c =
     let r = c.requires in
     gives_up i.1 r.program r.sound r.made.run i.0
 
+pub returns-in-Memory : goal.returns-in-Memory
+returns-in-Memory g c =
+    let i = c.loop.invariant in
+    let r = c.requires in
+    gives_up i.1 r.program r.sound r.made.run i.0
+
 pub returns-in-Traps : goal.returns-in-Traps
 returns-in-Traps g c =
     let i = c.loop.invariant in
@@ -119,6 +125,15 @@ loop-preserved-else-not-goes g c =
 
 -- ---- loops
 
+-- one that the engine lets go of is where it was
+pub loop-preserved-then-lets_go : goal.loop-preserved-then-lets_go
+loop-preserved-then-lets_go g c =
+    let i = c.loop.invariant in
+    let r = c.requires in
+    let a = rw (i.2, c.in-Begins.is) at c.go_on.ensures.event in
+    let x = at_loop i.0 r.program r.sound r.made.run a in
+    rw c.lets_go.ensures.account (x.next, i.1, c.go_on.ensures.program ∙ i.2)
+
 pub list_on-requires-clause-ready : goal.list_on-requires-clause-ready
 list_on-requires-clause-ready g c = λ κs o. c.requires.ready
 
@@ -155,7 +170,7 @@ returns-in-Err-list_on g c =
     let r = c.requires in
     let a = rw (i.2, c.in-Begins.is) at c.go_on.ensures.event in
     let x = at_loop i.0 r.program r.sound r.made.run a in
-    let past = rw r.coded at c.in-Err-list_on.ensures.past in
+    let past = rw (r.coded, c.lets_go.ensures.account) at c.in-Err-list_on.ensures.past in
     gives_up_by i.1 r.program r.sound r.made.run i.0 (loop_part x r.program r.sound r.made.run _ past.account.part)
 
 pub loop-preserved : goal.loop-preserved
@@ -164,5 +179,5 @@ loop-preserved g c =
     let r = c.requires in
     let a = rw (i.2, c.in-Begins.is) at c.go_on.ensures.event in
     let x = at_loop i.0 r.program r.sound r.made.run a in
-    let past = rw r.coded at c.in_default-list_on.ensures.past in
+    let past = rw (r.coded, c.lets_go.ensures.account) at c.in_default-list_on.ensures.past in
     (loop_over x c.list_on.new.frames c.list_on.new.run.heap _ past.means past.account.all, i.1, c.in_default-list_on.ensures.program ∙ (c.go_on.ensures.program ∙ i.2))

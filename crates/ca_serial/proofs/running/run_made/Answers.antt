@@ -1,8 +1,8 @@
 use Rattle.ca_serial.proofs.Driving.{gave_up}
 use Rattle.ca_serial.proofs.running.run_made.Goals as goal
 
-pub coded_of-requires : goal.coded_of-requires
-coded_of-requires g c = record { laid = c.requires.made.run.laid; runs = c.requires.made.ops }
+pub of-requires : goal.of-requires
+of-requires g c = record { typed = c.requires.may.program; laid = c.requires.made.run.laid; runs = c.requires.made.ops }
 
 pub returns-in_default : goal.returns-in_default
 returns-in_default g c = gave_up

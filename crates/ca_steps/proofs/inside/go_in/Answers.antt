@@ -14,7 +14,7 @@ enter_marked-requires g c =
     let m = c.args.frames.now in
     let at = sym (rw c.as_slice.ensures.value at c.row_at.ensures) ∙ c.in-Some.is in
     let there = stands_there acc code m.at c.in-Some.row (Hand c.in-Hand.op c.in-Hand.first) at c.in-Hand.is in
-    record { hands = record { stands = there.0; names = pointer_is 0 0 c.in-Object.n _ (c.in-Object.ensures 0 0) } }
+    record { hands = record { stands = there.0; names = pointer_is 0 0 c.in-Object.n _ (c.in-Object.ensures.names 0 0) } }
 
 pub returns-in-Begin : goal.returns-in-Begin
 returns-in-Begin g c =

@@ -1,4 +1,4 @@
-use Rattle.std.proofs.Common.{None, refl, ap, ◌∙◌, subst}
+use Rattle.std.proofs.Common.{None, refl, ap, ◌∙◌, subst, arith}
 use Rattle.ca_program.specs.View.{program_view}
 use Rattle.ca_meaning.specs.Serial.{in_heap}
 use Rattle.ca_code.specs.Codes.{code_seen}
@@ -50,6 +50,14 @@ pub returns-in-Fails : goal.returns-in-Fails
 returns-in-Fails g c =
     let inv = c.loop.invariant in
     record { event = record { frames = c.loop.frames; heap = c.loop.run.run.heap; way = inv.1; happens = λ w. tt } }
+
+pub returns-in-Memory : goal.returns-in-Memory
+returns-in-Memory g c =
+    let inv = c.loop.invariant in
+    record { event = record { frames = c.loop.frames; heap = c.loop.run.run.heap; way = inv.1; happens = λ w. tt } }
+
+pub act_slowly-requires : goal.act_slowly-requires
+act_slowly-requires g c = record { few = omega (arith, c.requires.laid.many, c.requires.laid.few); elsewhere = c.in-Leaves.ensures.elsewhere }
 
 pub loop-preserved : goal.loop-preserved
 loop-preserved g c =

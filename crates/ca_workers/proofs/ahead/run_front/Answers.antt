@@ -2,8 +2,8 @@ use Rattle.std.proofs.Common.{◌+◌, ◌<◌, ◌∙◌, ℕ, length, drop, re
 use Rattle.std.proofs.lemmas.Result.{err_from_is_err_and}
 use Rattle.ca_program.specs.View.{program_view}
 use Rattle.ca_parallel.specs.Calls.{invocation_of, invocations_of}
-use Rattle.ca_run.specs.InPlace.{CallEnds, Continues}
-use Rattle.ca_run.proofs.InPlace.{next_call, none_ran, one_ran, one_stopped}
+use Rattle.ca_sections.specs.InOrder.{CallEnds, Continues}
+use Rattle.ca_sections.proofs.InOrder.{next_call, none_ran, one_ran, one_stopped}
 use Rattle.ca_workers.proofs.ahead.run_front.Goals as goal
 
 pub front-init : goal.front-init

@@ -1,8 +1,8 @@
 use Rattle.std.proofs.Common.{◌≡◌, drop}
 use Rattle.ca_program.specs.View.{program_view}
 use Rattle.ca_parallel.specs.Calls.{invocations_of}
-use Rattle.ca_run.specs.InPlace.{Continues}
-use Rattle.ca_run.specs.Puts.{before}
+use Rattle.ca_sections.specs.InOrder.{Continues}
+use Rattle.ca_undo.specs.Puts.{before}
 use Rattle.ca_workers.proofs.ahead.run_front.Given as goal
 
 -- so many were done so far, and all can be undone

@@ -2,9 +2,9 @@ use Rattle.std.proofs.Common.{[], ◌∷◌, sym, ap, subst, ◌∙◌}
 use Rattle.ca_program.specs.View.{program_view}
 use Rattle.ca_parallel.specs.Calls.{RunsTo, invocation_of}
 use Rattle.ca_sum_laws.proofs.Calls.{well_typed_there}
-use Rattle.ca_run.specs.InPlace.{CallEnds}
-use Rattle.ca_run.specs.Puts.{restored}
-use Rattle.ca_run.proofs.InPlace.{never_runs, none_ran, one_alone, one_stopped, runs_to}
+use Rattle.ca_sections.specs.InOrder.{CallEnds}
+use Rattle.ca_undo.specs.Puts.{restored}
+use Rattle.ca_sections.proofs.InOrder.{never_runs, none_ran, one_alone, one_stopped, runs_to}
 use Rattle.ca_replica.specs.Applied.{sums}
 use Rattle.ca_replica.specs.InPlace.{AllHave, AllWritten}
 use Rattle.ca_replica.specs.Zeroed.{zeroed_heap}

@@ -1,4 +1,4 @@
-use Rattle.ca_run.proofs.Restoring.{nothing_kept}
+use Rattle.ca_undo.proofs.Restoring.{nothing_kept}
 use Rattle.ca_run.proofs.one_worker.OneWorker.begin.Goals as goal
 
 pub returns : goal.returns

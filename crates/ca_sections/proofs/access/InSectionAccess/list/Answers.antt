@@ -3,7 +3,7 @@ use Rattle.std.specs.Prelude.{map}
 use Rattle.std.proofs.lemmas.List.{drop-append-le, map-append, take-append-le}
 use Rattle.ca_parallel.specs.declared.op.Op.{Op}
 use Rattle.ca_parallel.specs.Calls.{invocation_of, invocations_of}
-use Rattle.ca_section.specs.Olds.{put_back}
+use Rattle.ca_undo.specs.Olds.{put_back}
 use Rattle.ca_code.specs.Seen.{kind_seen}
 use Rattle.ca_code_laws.specs.Machine.{listed, row}
 use Rattle.ca_steps.specs.Stands.{seen}

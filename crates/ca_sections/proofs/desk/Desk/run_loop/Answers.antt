@@ -10,7 +10,7 @@ use Rattle.ca_parallel.specs.Calls.{invocations_of}
 use Rattle.ca_parallel.specs.declared.op.Op.{Op}
 use Rattle.ca_code.specs.Codes.{code_seen}
 use Rattle.ca_code_laws.specs.Told.{Holds}
-use Rattle.ca_section.specs.Olds.{put_back, AllThere}
+use Rattle.ca_undo.specs.Olds.{put_back, AllThere}
 use Rattle.ca_steps.specs.Lists.{has_some}
 use Rattle.ca_steps.specs.Stands.{back_seen, here_state, seen}
 use Rattle.ca_sections.specs.Answers.{LoopIs, LocalsAre}
@@ -58,8 +58,8 @@ returns c =
     let left = c.run-ran.result.left in
     let values = c.locals_behind-ended.new.values.items in
     let out = c.args.out.now.items in
-    let given = c.out-1.given.0 in
-    let final : given ≡ c.settle.new.self.listed.now = c.out-1.given.1 (sym (c.settle.ensures.same_list ∙ ap (λ l. l.listed) c.run-ran.ensures.lasts)) in
+    let given = c.out-2-1.given.0 in
+    let final : given ≡ c.settle.new.self.listed.now = c.out-2-1.given.1 (sym (c.settle.ensures.same_list ∙ ap (λ l. l.listed) c.run-ran.ensures.lasts)) in
     let now = given.items in
     let told : c.settle.new.self.listed.now.items ≡ now = ap (λ (v : Vec Op Global). v.items) (sym final) in
     let after = c.settle.new.self.slots.now in
@@ -77,14 +77,14 @@ returns c =
     let kept = subst (λ ns. OnErr c.settle.result ((after ≡ put_back a1.olds.now a1.slots.now) × (ns ≡ out))) told (subst (λ os. OnErr c.settle.result ((after ≡ put_back a1.olds.now a1.slots.now) × (c.settle.new.self.listed.now.items ≡ os))) fore c.settle.ensures.kept) in
     let held : (p : PlainProgram) → Holds (kinds_in p tys).locals (seen m0.slots.items) 0 ls × (length ls ≡ length tys) = λ p. locals_held p tys ls _ _ _ made put in
     record {
-      answer = λ p line loop fit laid stands none.
+      answer = λ stays p line loop fit laid stands none.
           ok_told (λ a. Settled ended a c.args.left left a1 after out now) (λ a. LoopIs a (loop_section p h c.args.this ls line loop c.args.left) out now) c.settle.result
           (λ a s. loop_is p code c.args.place n h c.args.this tys line loop ls c.args.left m0 x0 fit laid stands below named (held p) hand ended left came.state a1 a after out now came.left_is came.world_is went s) settled;
-      locals = λ p line loop fit laid stands none.
+      locals = λ stays p line loop fit laid stands none.
           ok_told (λ a. Settled ended a c.args.left left a1 after out now) (λ a. LocalsAre a (loop_section p h c.args.this ls line loop c.args.left) values) c.settle.result
           (λ a s. locals_are p code c.args.place n h c.args.this tys line loop ls c.args.left m0 x0 fit laid stands below named (held p) hand ended came.state m1 a values came.slots_are base went (λ u e. read_behind ended c.locals_behind-ended.ensures.read u e) (settled_done ended a c.args.left left a1 after out now s)) settled;
       kept = kept_second (after ≡ put_back a1.olds.now a1.slots.now) (now ≡ out) c.settle.result kept;
     }
 
 pub returns-then-place-len : goal.returns-then-place-len
-returns-then-place-len c = record { answer = λ p line loop fit laid stands none. tt; locals = λ p line loop fit laid stands none. tt; kept = refl }
+returns-then-place-len c = record { answer = λ stays p line loop fit laid stands none. tt; locals = λ stays p line loop fit laid stands none. tt; kept = refl }

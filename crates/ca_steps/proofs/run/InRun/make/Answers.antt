@@ -20,3 +20,6 @@ returns-in-Full c =
       makes = λ line k. (full_traps p line h c.args.class k (c.create.ensures.full (c.in-Err.is ∙ ap Err c.in-Full.is)), c.in-Err.ensures.kept);
       program = refl;
     }
+
+pub returns-in-Memory : goal.returns-in-Memory
+returns-in-Memory c = record { makes = tt; program = refl }

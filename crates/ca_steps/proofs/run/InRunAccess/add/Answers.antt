@@ -23,7 +23,7 @@ returns-then-store c =
     let m = to_z w64 (of_z w64 c.sum_of-sum.result) in
     record {
       adds = λ past bs fits. subst (λ v. Adds v c.args.n m) (sym own) (subst (Adds (Long c.in-Long.a) c.args.n) (sym (to_z-of_z w64 c.sum_of-sum.result small)) total);
-      put = λ past bs fits. ap (in_heap past) (c.store.ensures c.if-store.true ∙ ap (λ v. put_own h v c.args.f 0 (Long m)) (sym me));
+      put = λ past bs fits. ap (in_heap past) (c.store.ensures.put c.if-store.true ∙ ap (λ v. put_own h v c.args.f 0 (Long m)) (sym me));
       fixed = refl;
       fits = λ bs h. h;
     }

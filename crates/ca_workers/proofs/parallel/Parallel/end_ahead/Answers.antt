@@ -1,6 +1,6 @@
 use Rattle.std.proofs.Common.{◌≡◌, ◌-◌, ◌∙◌, ℕ, Option, Some, None, Result, Ok, Err, refl, ap, sym, subst}
 use Rattle.ca_base.specs.declared.faults.Memory.{Memory}
-use Rattle.ca_run.specs.Puts.{before}
+use Rattle.ca_undo.specs.Puts.{before}
 use Rattle.ca_workers.specs.clauses.Ahead.{EndsAhead}
 use Rattle.ca_workers.proofs.parallel.Parallel.end_ahead.Goals as goal
 

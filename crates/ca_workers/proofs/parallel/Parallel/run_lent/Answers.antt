@@ -2,8 +2,8 @@ use Rattle.std.proofs.Common.{◌≡◌, ◌++◌, List, IfOk, MatchOption, drop
 use Rattle.ca_program.specs.View.{program_view}
 use Rattle.ca_meaning.specs.Expressions.{Invocation}
 use Rattle.ca_parallel.specs.Calls.{invocations_of, operation_of}
-use Rattle.ca_run.specs.InPlace.{Continues}
-use Rattle.ca_run.specs.Puts.{before}
+use Rattle.ca_sections.specs.InOrder.{Continues}
+use Rattle.ca_undo.specs.Puts.{before}
 use Rattle.ca_workers.specs.clauses.Ahead.{RanFront, WaitFrom}
 use Rattle.ca_workers.specs.clauses.Runs.{Placed}
 use Rattle.ca_workers.proofs.InHeap.{ahead_kept, ahead_placed, fewer_inside, later, lent_behind, never_within, undone}

@@ -9,9 +9,6 @@ use Rattle.ca_workers.proofs.InHeap.{from_handed}
 use Rattle.ca_workers.proofs.Opened.{opened_waits, placed_behind}
 use Rattle.ca_workers.proofs.parallel.Parallel.run_list.Goals as goal
 
-pub returns-then-begins : goal.returns-then-begins
-returns-then-begins g c = record { placed = c.run_together.ensures.placed; kept = c.run_together.ensures.kept }
-
 pub run_lent-requires-clause-waits : goal.run_lent-requires-clause-waits
 run_lent-requires-clause-waits g c κs o =
     let r = c.requires in

@@ -3,8 +3,8 @@ use Rattle.ca_program.specs.View.{program_view}
 use Rattle.ca_meaning.specs.WellTyped.{AllWellTyped}
 use Rattle.ca_parallel.specs.declared.op.Op.{Op}
 use Rattle.ca_parallel.specs.Calls.{invocations_of, operation_of}
-use Rattle.ca_run.specs.InPlace.{Continues}
-use Rattle.ca_run.specs.Puts.{before}
+use Rattle.ca_sections.specs.InOrder.{Continues}
+use Rattle.ca_undo.specs.Puts.{before}
 use Rattle.ca_workers.specs.clauses.Ahead.{RanFront}
 use Rattle.ca_workers.proofs.InHeap.{ahead_kept, ahead_placed, fewer_inside, later, never_within, undone}
 use Rattle.ca_workers.proofs.parallel.Parallel.run_owned.Goals as goal

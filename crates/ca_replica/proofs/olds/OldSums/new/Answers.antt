@@ -1,4 +1,0 @@
-use Rattle.ca_replica.proofs.olds.OldSums.new.Goals as goal
-
-pub invariant_of-result : goal.invariant_of-result
-invariant_of-result c = c.none_at_hand.ensures _

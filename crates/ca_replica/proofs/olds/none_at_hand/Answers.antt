@@ -1,5 +1,0 @@
-use Rattle.std.proofs.Common.{arith}
-use Rattle.ca_replica.proofs.olds.none_at_hand.Goals as goal
-
-pub returns : goal.returns
-returns c = λ os e. absurd (omega (arith, e))

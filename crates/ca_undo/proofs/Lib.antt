@@ -1,0 +1,5 @@
+pub mod Back
+pub mod Moved
+mod Marking
+mod OldsExamples
+pub mod Restoring

@@ -1,0 +1,3 @@
+pub mod Olds
+pub mod Puts
+pub mod Hands

@@ -1,6 +1,0 @@
-use Rattle.std.proofs.Common.{arith}
-use Rattle.ca_workers.proofs.Roots.{last_there}
-use Rattle.ca_workers.proofs.tasks.is_last.Goals as goal
-
-pub returns : goal.returns
-returns c = λ e. last_there c.args.ids.now c.args.id _ _ c.if-last-id.false (omega (arith, c.if-count-eq0.false))
