@@ -14,33 +14,37 @@ of class A { public: long n; void set(long v) { n = v; } void mul(long v) { n *=
 run 2 4 | 1 0 0 0 | #0 A n=24$
 run 64 4 | 1 0 0 0 | #0 A n=24$
 run 1 4 | 3 0 0 0 | #0 A n=24$
-// operations that call a value method with a loop: two neighbours, and the one that lists them, which takes no lock
-of class A { public: long n; long same(long v) { long k = v; for (long i = 0; i < 1; i++) k = v; return k; } void set(long v) { n = v; } void mul(long v) { n *= v; } void two(long v) { mul(same(v)); mul(v + 1); } }; int main() { A *a = new A(); a->set(2); a->two(3); }
-run 2 1000 | 1 0 0 0 | #0 A n=24$
-run 64 1000 | 1 0 0 0 | #0 A n=24$
-run 1 1000 | 3 0 0 0 | #0 A n=24$
+// operations that take so long that a list may gain: two neighbours on each of two objects in turn, of which the calling thread runs each alone
+of class A { public: long n; A *to; long same(long v) { long k = v; for (long i = 0; i < 60; i++) k = k + 1; return k - 60; } void set(A *t) { n = 1; to = t; } void mul(long v, long m) { n *= same(v); if (m > 0) { if (m % 2 == 0) mul(v, m - 1); else to->mul(v, m - 1); } } }; int main() { A *a = new A(); A *b = new A(); a->set(b); b->set(a); a->mul(1, 700); }
+run 2 100000 | 176 175 0 0 | #0 A n=1 to=#1$#1 A n=1 to=#0$
+run 1 100000 | 351 350 0 0 | #0 A n=1 to=#1$#1 A n=1 to=#0$
 // 33 neighbours
-of class A { public: long n; long same(long v) { long k = v; for (long i = 0; i < 1; i++) k = v; return k; } void set(long v) { n = v; } void mul(long v) { n *= v; } void many(long v) { for (long i = 0; i < 33; i++) mul(same(v)); } }; int main() { A *a = new A(); a->set(1); a->many(2); }
-run 2 1000 | 3 0 0 0 | #0 A n=8589934592$
-run 1 1000 | 34 0 0 0 | #0 A n=8589934592$
-// 30 of them
-of class A { public: long n; long same(long v) { long k = v; for (long i = 0; i < 1; i++) k = v; return k; } void set(long v) { n = v; } void mul(long v) { n *= v; } void many(long v) { for (long i = 0; i < 30; i++) mul(same(v)); } }; int main() { A *a = new A(); a->set(1); a->many(2); }
-run 2 1000 | 2 0 0 0 | #0 A n=1073741824$
-run 4 1000 | 2 0 0 0 | #0 A n=1073741824$
+of class A { public: long n; A *to; long same(long v) { long k = v; for (long i = 0; i < 60; i++) k = k + 1; return k - 60; } void set(A *t) { n = 1; to = t; } void mul(long v, long m) { n *= same(v); if (m > 0) { if (m % 33 != 0) mul(v, m - 1); else to->mul(v, m - 1); } } }; int main() { A *a = new A(); A *b = new A(); a->set(b); b->set(a); a->mul(1, 659); }
+run 2 100000 | 30 30 0 0 | #0 A n=1 to=#1$#1 A n=1 to=#0$
+run 1 100000 | 330 330 0 0 | #0 A n=1 to=#1$#1 A n=1 to=#0$
+// between two of them one that takes no lock
+of class A { public: long n; A *to; long same(long v) { long k = v; for (long i = 0; i < 60; i++) k = k + 1; return k - 60; } void set(A *t) { n = 1; to = t; } void pass(long v, long m) { if (m > 0) to->mul(v, m - 1); } void mul(long v, long m) { n *= same(v); to->pass(v, m); } }; int main() { A *a = new A(); A *b = new A(); A *c = new A(); a->set(b); b->set(c); c->set(a); a->mul(1, 599); }
+run 2 100000 | 200 200 200 0 | #0 A n=1 to=#1$#1 A n=1 to=#2$#2 A n=1 to=#0$
+run 1 100000 | 400 400 400 0 | #0 A n=1 to=#1$#1 A n=1 to=#2$#2 A n=1 to=#0$
+// operations whose text doesn't tell what they take, and that soon end: in order, each past the gate, as by one worker
+of class A { public: long n; long same(long v) { long k = v; for (long i = 0; i < 1; i++) k = v; return k; } void set(long v) { n = v; } void mul(long v) { n *= v; } void two(long v) { mul(same(v)); mul(v + 1); } }; int main() { A *a = new A(); a->set(2); a->two(3); }
+run 2 1000 | 3 0 0 0 | #0 A n=24$
+run 64 1000 | 3 0 0 0 | #0 A n=24$
+run 1 1000 | 3 0 0 0 | #0 A n=24$
 // receivers that take turns, and then two and two
 of class A { public: long n; A *one; A *two; long same(long v) { long k = v; for (long i = 0; i < 1; i++) k = v; return k; } void set(A *o, A *t) { n = 1; one = o; two = t; } void mul(long v) { n *= v; } void turns(long v) { one->mul(same(v)); two->mul(v); one->mul(v); two->mul(v); } }; int main() { A *a = new A(); A *b = new A(); A *c = new A(); a->set(b, c); b->set(b, c); c->set(b, c); a->turns(2); }
-run 2 1000 | 0 2 2 0 | #0 A n=1 one=#1 two=#2$#1 A n=4 one=#1 two=#2$#2 A n=4 one=#1 two=#2$
+run 2 1000 | 1 2 2 0 | #0 A n=1 one=#1 two=#2$#1 A n=4 one=#1 two=#2$#2 A n=4 one=#1 two=#2$
 run 1 1000 | 1 2 2 0 | #0 A n=1 one=#1 two=#2$#1 A n=4 one=#1 two=#2$#2 A n=4 one=#1 two=#2$
 of class A { public: long n; A *one; A *two; long same(long v) { long k = v; for (long i = 0; i < 1; i++) k = v; return k; } void set(A *o, A *t) { n = 1; one = o; two = t; } void mul(long v) { n *= v; } void pairs(long v) { one->mul(same(v)); one->mul(v); two->mul(v); two->mul(v); } }; int main() { A *a = new A(); A *b = new A(); A *c = new A(); a->set(b, c); b->set(b, c); c->set(b, c); a->pairs(2); }
-run 2 1000 | 0 1 1 0 | #0 A n=1 one=#1 two=#2$#1 A n=4 one=#1 two=#2$#2 A n=4 one=#1 two=#2$
+run 2 1000 | 1 2 2 0 | #0 A n=1 one=#1 two=#2$#1 A n=4 one=#1 two=#2$#2 A n=4 one=#1 two=#2$
 run 1 1000 | 1 2 2 0 | #0 A n=1 one=#1 two=#2$#1 A n=4 one=#1 two=#2$#2 A n=4 one=#1 two=#2$
 // one that takes the lock, and its neighbour
 of class A { public: long n; long same(long v) { long k = v; for (long i = 0; i < 1; i++) k = v; return k; } void set(long v) { n = v; } void mul(long v) { n *= v; } void twice(long v) { n *= v; mul(same(v) + 1); } }; int main() { A *a = new A(); a->set(2); a->twice(3); }
-run 2 1000 | 1 0 0 0 | #0 A n=24$
+run 2 1000 | 2 0 0 0 | #0 A n=24$
 run 1 1000 | 2 0 0 0 | #0 A n=24$
 // what reads fields that nobody writes takes no lock, and what reads one that another writes does
 of class A { public: long n; long k; A *to; long same(long v) { long k = v; for (long i = 0; i < 1; i++) k = v; return k; } void set(long v, A *t) { k = v; to = t; } void add(long v) { n += v; } void pass(long v) { to->add(k + v); } void both(long v) { n += v; to->pass(same(v)); } }; int main() { A *a = new A(); A *b = new A(); A *c = new A(); a->set(1, b); b->set(2, c); a->both(5); }
-run 2 1000 | 1 0 1 0 | #0 A n=5 k=1 to=#1$#1 A n=0 k=2 to=#2$#2 A n=7 k=0 to=null$
+run 2 1000 | 1 1 1 0 | #0 A n=5 k=1 to=#1$#1 A n=0 k=2 to=#2$#2 A n=7 k=0 to=null$
 run 1 1000 | 1 1 1 0 | #0 A n=5 k=1 to=#1$#1 A n=0 k=2 to=#2$#2 A n=7 k=0 to=null$
 // light calls of a marked loop on more than a few objects: the run goes on into it
 of class A { public: long n; void set(long v) { n = v; } void mul(long v) { n *= v; } }; class B { public: A *at[16]; void fill() { for (long i = 0; i < 16; i++) { at[i] = new A(); at[i]->set(1); } } }; int main() { B *b = new B(); b->fill(); for (long i = 0; i < 16; i++) b->at[i]->mul(3); }

@@ -1,10 +1,12 @@
 //! Normal forms of operators whose operands may stand in any order: the greatest, the least, and the bit operators.
 
-use crate::sources::let_go;
+use crate::sources::{let_go, program};
 use crate::terms::{hold, hold_for_each};
 use ca_folds::FoldOp;
 use ca_norm::Sort;
+use ca_program::OpId;
 use ca_shared_terms::{ExecutionError, LightTerm};
+use ca_symbolic::{Demands, Side, SymState, symbolic};
 use std::process::Abort;
 
 /// The letters of the operators.
@@ -144,4 +146,34 @@ fn shares_operands(rt: HostRuntime) {
     let heavier = twice(&rt, FoldOp::Max, term);
     assert!(rt; matches!(&heavier, Err(ExecutionError::Large)));
     let_go(heavier);
+}
+
+/// A field that no statement puts keeps the heaviest term that there is, and the run isn't Large: a heavier one can't be made.
+#[test]
+fn heaviest_field_stays(rt: HostRuntime) {
+    let mut heavy = field(&rt);
+    for _ in 0..15 {
+        heavy = twice(&rt, FoldOp::Max, heavy).expect(&rt, "a term");
+    }
+    let mut fields = Vec::new(rt.alloc());
+    fields.push(heavy).expect(&rt, "a field");
+    let mut state = SymState::of(fields, Vec::new(rt.alloc()));
+    let mut demands = Demands::new(rt.alloc()).expect(&rt, "demands");
+    let program = program(
+        &rt,
+        "class A { public: long x; void m() { } }; int main() { }",
+    );
+    assert!(rt; program.ops.len() == 1);
+    let ran = symbolic(
+        rt.alloc(),
+        program,
+        &[],
+        OpId(0),
+        Side::First,
+        &mut state,
+        &mut demands,
+    );
+    assert!(rt; matches!(ran, Ok(())));
+    let_go(state);
+    let_go(demands);
 }

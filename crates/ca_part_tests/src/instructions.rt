@@ -52,7 +52,8 @@ fn ends<R: AllocGlobal + Abort + Wait>(rt: &R, text: &str, budget: u64, numbers:
             Event::Spends => break,
             Event::Hands(_, _, _) => panic!(rt; "a call is handed on"),
             Event::Begins(_, _, _, _) => panic!(rt; "a loop is handed on"),
-            Event::Fails => panic!(rt; "memory runs out"),
+            Event::Fails => panic!(rt; "it isn't told"),
+            Event::Memory => panic!(rt; "memory runs out"),
         }
     }
     assert!(rt; count == numbers.len());

@@ -52,7 +52,7 @@ fn handed<R: AllocGlobal + Abort + Wait>(rt: &R, text: &str, row: &str) -> Strin
             Event::Hands(op, first, receiver) => {
                 calls = calls.saturating_add(1);
                 let went = frames.enter_operation(laid.code.ops.as_slice(), op, receiver, first);
-                assert!(rt; matches!(went, Went::On));
+                assert!(rt; matches!(went, Ok(Went::On)));
             }
             Event::Begins(_, _, _, _) => {
                 begun = begun.saturating_add(1);

@@ -2,7 +2,7 @@
 
 use crate::sources::{let_go, program};
 use ca_model::{Slot, Slots, Value};
-use ca_section::Olds;
+use ca_undo::Olds;
 
 /// Whether a field has this single value.
 fn is_one(slots: &Slots, field: u32, value: Value) -> bool {

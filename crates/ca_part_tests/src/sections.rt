@@ -7,6 +7,9 @@
 //! receiver, and a call is `receiver.op.number`. `-` stands for none. A section that is `undone` is done first, and one that is `frozen`
 //! puts nothing and reads the heap alone.
 
+ghost use Rattle.ca_program.specs.View.{program_view};
+ghost use Rattle.ca_meaning.specs.ProgramTyped.{ProgramTyped};
+
 use crate::sources::{coded, lent, let_go, program};
 use ca_model::{Heap, Object, Slot, Slots, Trap, TrapKind, Value};
 use ca_parallel::{Arguments, Marks, Op};
@@ -309,7 +312,9 @@ fn on_its_own<R: AllocGlobal + Abort>(
     locals: &mut Vec<Value>,
     left: u64,
     out: &mut Vec<Op>,
-) -> SectionAnswer {
+) -> SectionAnswer
+    requires { ProgramTyped (program_view program.now) }
+{
     let alloc = rt.alloc();
     let mut marks = Marks::none(alloc);
     marks.loops.push(LoopId(0)).expect(rt, "a mark");
@@ -358,7 +363,9 @@ fn bins_end<R: AllocGlobal + Abort>(
     due: SectionAnswer,
     counter: i64,
     calls: &str,
-) -> bool {
+) -> bool
+    requires { ProgramTyped (program_view program.now) }
+{
     let alloc = rt.alloc();
     let heap = pair(rt, program);
     let mut locals = Vec::new(alloc);

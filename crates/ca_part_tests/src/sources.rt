@@ -1,7 +1,15 @@
 //! Tokens, trees and programs of sources, each lent for good. Where a source has none, or memory runs out, the test ends, so that
 //! nothing lives where a function may end early.
 
-ghost use Rattle.std.specs.Prelude.{◌≡◌};
+ghost use Rattle.std.specs.Prelude.{◌≡◌, ℕ, List};
+ghost use Rattle.ca_tree.specs.declared.token.Token.{Token};
+ghost use Rattle.ca_tree.specs.View.{tree_view};
+ghost use Rattle.ca_program.specs.View.{program_view};
+ghost use Rattle.ca_lex.specs.Tokens.{Tokens};
+ghost use Rattle.ca_parse.specs.Grammar.{DerivesWithin};
+ghost use Rattle.ca_resolve.specs.Judged.{fine};
+ghost use Rattle.ca_types.specs.Classes.{judge};
+ghost use Rattle.ca_meaning.specs.ProgramTyped.{ProgramTyped};
 
 use ca_code::{PlainBodies, lay_out_with};
 use ca_lex::{LONGEST_TEXT, lex};
@@ -26,23 +34,31 @@ pub fn lent<'a, R: AllocGlobal + Abort, T: Drop + 'a>(rt: &R, value: T) -> &'a T
 }
 
 /// The tokens of a text.
-pub fn tokens<'a, R: AllocGlobal + Abort>(rt: &R, text: &str) -> &'a Vec<Token> {
+pub fn tokens<'a, R: AllocGlobal + Abort>(rt: &R, text: &str) -> &'a Vec<Token>
+    ensures { (bytes : List ℕ) × Tokens bytes result.now.items }
+{
     assert!(rt; text.len() <= LONGEST_TEXT);
     lent(rt, lex(rt.alloc(), text.as_bytes()).expect(rt, "tokens"))
 }
 
 /// The tree of a text.
-pub fn tree<'a, R: AllocGlobal + Abort>(rt: &R, text: &str) -> &'a Tree {
+pub fn tree<'a, R: AllocGlobal + Abort>(rt: &R, text: &str) -> &'a Tree
+    ensures { (bytes : List ℕ) × (tokens : List Token) × Tokens bytes tokens × DerivesWithin tokens (tree_view result.now) }
+{
     lent(rt, parse(rt.alloc(), tokens(rt, text)).expect(rt, "a tree"))
 }
 
 /// The program of a tree.
-pub fn checked<'a, R: AllocGlobal + Abort>(rt: &R, tree: &Tree) -> &'a Program {
+pub fn checked<'a, R: AllocGlobal + Abort>(rt: &R, tree: &Tree) -> &'a Program
+    ensures { judge (tree_view tree.now) ≡ fine (program_view result.now) }
+{
     lent(rt, check(rt.alloc(), tree).expect(rt, "a program"))
 }
 
-/// The program of a text.
-pub fn program<'a, R: AllocGlobal + Abort>(rt: &R, text: &str) -> &'a Program {
+/// The program of a text, which is typed.
+pub fn program<'a, R: AllocGlobal + Abort>(rt: &R, text: &str) -> &'a Program
+    ensures { ProgramTyped (program_view result.now) }
+{
     checked(rt, tree(rt, text))
 }
 

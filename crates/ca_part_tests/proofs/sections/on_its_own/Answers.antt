@@ -17,6 +17,7 @@ pub of-requires-2 : goal.of-requires-2
 of-requires-2 g c =
     let p = program_view c.args.program.now in
     record {
+      typed = c.requires;
       laid = subst (λ (l : Laid). IsLaidOut p (code_seen l.code)) (sym c.lent-laid.ensures) (subst (λ (d : CodeHeld). IsLaidOut p (code_seen d)) (sym c.in-Ok-of.ensures.0) (still_laid c.in-Ok.code c.in-Ok-with_loops.code c.in-Ok-with_loops.ensures.0 p c.in-Ok.ensures.laid));
       runs = subst (λ (l : Laid). Runs (code_seen l.code) l.code.rows.items l.ops.items) (sym c.lent-laid.ensures) c.in-Ok-of.ensures.1;
     }
