@@ -1,14 +1,18 @@
-"""The manual page share/man/man1/commute.1, made from the page of the commands, docs/reference/commands.md."""
+"""The manual pages: share/man/man1/commute.1, made from the page of the commands, docs/reference/commands.md, and
+share/man/man1/commute++.1, made from that of the driver, docs/guide/driver.md."""
 
 from __future__ import annotations
 
 import re
 from collections.abc import Iterator
+from pathlib import Path
 
 from sources import ROOT
 
 PAGE = ROOT / "docs" / "reference" / "commands.md"
 MADE = ROOT / "share" / "man" / "man1" / "commute.1"
+DRIVER_PAGE = ROOT / "docs" / "guide" / "driver.md"
+DRIVER_MADE = ROOT / "share" / "man" / "man1" / "commute++.1"
 # What stands in front of the page's sections: the words of the script ./commute, which are no command of the program.
 FRONT = r""".\" Made by checks/manual from docs/reference/commands.md: change that page and not this one.
 .TH COMMUTE 1 "" "commute %VERSION%" "User Commands"
@@ -41,6 +45,26 @@ BACK = r""".SH SEE ALSO
 The pages of
 .I docs/
 in the repository: the guide for a program of your own, the language, the analysis, what is proved and how.
+"""
+DRIVER_FRONT = r""".\" Made by checks/manual from docs/guide/driver.md: change that page and not this one.
+.TH COMMUTE++ 1 "" "commute %VERSION%" "User Commands"
+.SH NAME
+commute++ \- compile serial C++ as g++ does, to a program that runs in parallel where that provably may be
+.SH SYNOPSIS
+.B commute++
+.RI [ "word of g++" " ...] " FILE " ..."
+.RB [ \-o
+.IR OUT ]
+.RI [ OPTION " ...]"
+.br
+.B commute++ \-\-language
+.I FILE
+.RI [ OPTION " ...]"
+.SH DESCRIPTION
+"""
+DRIVER_BACK = r""".SH SEE ALSO
+.BR g++ (1),
+.BR commute (1)
 """
 BULLET = r"\(bu"
 
@@ -119,6 +143,21 @@ def made() -> str:
     return front + ".SH THE PROGRAM\n" + "\n".join(sections(text)) + "\n" + BACK
 
 
-def is_made() -> bool:
-    """Whether the page that stands there is that one."""
-    return MADE.exists() and MADE.read_text(encoding="utf-8") == made()
+def made_of_driver() -> str:
+    version = (ROOT / "VERSION").read_text(encoding="utf-8").strip()
+    text = DRIVER_PAGE.read_text(encoding="utf-8")
+    return DRIVER_FRONT.replace("%VERSION%", version) + "\n".join(sections(text)) + "\n" + DRIVER_BACK
+
+
+def pages() -> list[tuple[Path, Path, str]]:
+    """Each manual page, the page that it is made from, and what it should be."""
+    return [(MADE, PAGE, made()), (DRIVER_MADE, DRIVER_PAGE, made_of_driver())]
+
+
+def wrong() -> list[str]:
+    """A line for each that isn't what its page makes."""
+    return [
+        f"{at.relative_to(ROOT)} isn't what {page.relative_to(ROOT)} makes: checks/manual write"
+        for at, page, text in pages()
+        if not at.is_file() or at.read_text(encoding="utf-8") != text
+    ]

@@ -4,9 +4,10 @@ from __future__ import annotations
 
 import shutil
 import subprocess
+from pathlib import Path
 
 import pytest
-from manual_page import MADE, made, sections
+from manual_page import DRIVER_MADE, MADE, made, made_of_driver, sections
 
 PAGE = """# Commands
 
@@ -45,7 +46,14 @@ def test_each_command_stands_in_the_synopsis() -> None:
         assert f".B commute {word}" in synopsis
 
 
+def test_each_word_of_the_driver_is_told() -> None:
+    text = made_of_driver()
+    for word in ("report", "why", "json", "must-parallel", "check", "language"):
+        assert rf"\fB\-\-{word.replace('-', chr(92) + '-')}" in text
+
+
 @pytest.mark.skipif(shutil.which("groff") is None, reason="groff isn't installed")
-def test_it_is_laid_out_without_a_warning() -> None:
-    done = subprocess.run(["groff", "-man", "-Tutf8", "-ww", MADE], capture_output=True, text=True)
+@pytest.mark.parametrize("page", [MADE, DRIVER_MADE])
+def test_it_is_laid_out_without_a_warning(page: Path) -> None:
+    done = subprocess.run(["groff", "-man", "-Tutf8", "-ww", page], capture_output=True, text=True)
     assert (done.returncode, done.stderr) == (0, "")
