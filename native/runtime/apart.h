@@ -1,4 +1,5 @@
-// Not proved: loops whose operations don't commute with themselves, shared where each turn has an object of its own.
+// Not proved: loops of which each turn has an object of its own: shared as they stand, though their operations may not
+// commute with themselves.
 #pragma once
 #include "loops.h"
 
@@ -17,22 +18,46 @@ template <class Receiver> static bool are_apart(long at, long end, double each, 
     Object *it = receiver(i);
     if (it == nullptr || it->stamp == last_stamp) return false;
     it->stamp = last_stamp;
-    if (i - at == 63 && !IS_FORCED && double(now() - begun) > each * 32) return false;
+    if (i - at == 63 && !is_forced() && double(now() - begun) > each * 32) return false;
   }
   return true;
 }
 
-static bool gave_up = false;
-
-// `receiver` gives the object of a turn. Turns that were tried alone are over when others begin, so their objects may
-// come again.
-template <class Turn, class Range, class Receiver>
-static void loop_apart(Worker &w, long at, long end, const Turn &turn, const Range &range, const Receiver &receiver) {
+// Whether the turns were shared as they stand, since they have different objects. Else `at` is the first that hasn't
+// begun. `receiver` gives the object of a turn. Turns that were tried alone are over when others begin, so their
+// objects may come again.
+template <int SIZE, class Turn, class Range, class Receiver>
+static bool shared_apart(Worker &w, long &at, long end, const Turn &turn, const Range &range,
+                         const Receiver &receiver) {
   w.tries = false;
-  Trial trial = IS_FORCED ? Trial{0, at} : tried(at, end, range);
-  if (trial.at >= end) return;
-  if (!pays_threads(Time(trial.each * double(end - trial.at)))) return range(trial.at, end);
-  if (are_apart(trial.at, end, trial.each, receiver)) return share_loop<1>(w, trial.at, end, trial.each, turn, range);
+  const Trial trial = is_forced() ? Trial{FORCED_TURN, at} : tried(at, end, 3 * MICROSECOND, range);
+  at = trial.at;
+  if (at >= end) return true;
+  const bool is_alone = !pays_threads(Time(trial.each * double(end - at)));
+  if (!is_alone && !are_apart(at, end, trial.each, receiver)) return false;
+  if (is_alone)
+    range(at, end);
+  else
+    share_loop<SIZE>(w, at, end, trial.each, turn, range);
+  return true;
+}
+
+// A loop that isn't marked: alone where an object comes twice.
+template <int SIZE, class Turn, class Range, class Receiver>
+static void loop_apart(Worker &w, long at, long end, const Turn &turn, const Range &range, const Receiver &receiver) {
+  if (shared_apart<SIZE>(w, at, end, turn, range, receiver)) return;
   gave_up = true;
-  range(trial.at, end);
+  range(at, end);
+}
+
+// A marked loop whose operations call nothing: where its objects are different it needs neither locks nor copies. Where
+// one came twice nobody looks again for a while.
+template <int SIZE, class Turn, class Range, class Receiver, class Marked>
+static void loop_where_apart(Worker &w, long at, long end, const Turn &turn, const Range &range,
+                             const Receiver &receiver, const Marked &marked) {
+  static unsigned skipped = 0;
+  if (skipped == 0 && shared_apart<SIZE>(w, at, end, turn, range, receiver)) return;
+  skipped = skipped == 0 ? 63 : skipped - 1;
+  w.tries = true;
+  marked(w, at, end);
 }

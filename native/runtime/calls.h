@@ -23,7 +23,9 @@ template <class Rest> static void run_rest_alone(Worker &w, Task &task) {
 template <class Rest> static bool rest_of_body(Frame &frame, Task &task) {
   RestFrame<Rest> &it = static_cast<RestFrame<Rest> &>(frame);
   if (it.is_given) return false;
-  task.run = run_rest_alone<Rest>;
+  task.run = run_rest<Rest>;
+  task.run_alone = run_rest_alone<Rest>;
+  task.second.outside = nullptr;
   task.first.keep(it.what, sizeof(Rest));
   return it.is_given = true;
 }
@@ -53,7 +55,7 @@ __attribute__((noinline)) static void call_with_frame(Worker &w, int levels, Cal
 // Whether a worker that was asked and has nothing to give should begin with frames here: not at the small calls that
 // stand deepest, but at the shallowest that comes within some microseconds.
 static inline bool is_high_enough(Worker &w, char *here) {
-  if (IS_FORCED) return true;
+  if (is_forced()) return true;
   if (w.noticed++ == 0) {
     w.since = now();
     w.highest = here;

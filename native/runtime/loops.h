@@ -1,5 +1,6 @@
 // Not proved: loops of calls. A loop is run turn by turn; half of what is left goes to who asks.
 #pragma once
+#include "closing.h"
 #include "copies.h"
 #include "threads.h"
 
@@ -28,10 +29,12 @@ static inline bool part_of_loop(Frame &frame, bool is_top, Task *task) {
 static inline bool rest_of_loop(Frame &frame, Task &task) {
   LoopFrame &it = static_cast<LoopFrame &>(frame);
   if (it.at >= it.end) return false;
-  task.run = it.run_alone;
+  task.run = it.run;
+  task.run_alone = it.run_alone;
   task.at = it.at;
   task.end = it.end;
-  task.first.keep(it.range, it.range_size);
+  task.first.keep(it.turn, it.turn_size);
+  task.second.keep(it.range, it.range_size);
   it.end = it.at;
   return true;
 }
@@ -48,8 +51,9 @@ template <int SIZE, class Turn> static inline long turned(Worker &w, LoopFrame &
 
 template <int SIZE, class Turn, class Range> static void run_loop(Worker &w, Task &task);
 template <class Range> static void run_range(Worker &, Task &task) {
-  const Range range = *static_cast<const Range *>(task.first.at());
+  const Range range = *static_cast<const Range *>(task.second.at());
   task.first.drop();
+  task.second.drop();
   range(task.at, task.end);
 }
 
@@ -72,11 +76,17 @@ template <int SIZE, class Turn, class Range>
 static void outermost(Worker &w, long at, long end, const Turn &turn, const Range &range);
 
 // `turn` is one turn among those of others, `range` some turns as the unmarked text has them. SIZE turns are so short
-// that nobody need look who asks before they are over.
+// that nobody need look who asks before they are over, and no more of them have no frame.
 template <int SIZE, class Turn, class Range>
 static inline void loop(Worker &w, long at, long end, const Turn &turn, const Range &range) {
   if (at >= end) return;
   if (RARE(w.tries)) return outermost<SIZE>(w, at, end, turn, range);
+  if (SIZE > 1 && end - at <= SIZE) {
+    const Turn own = turn;
+    do own(w, at);
+    while (++at < end);
+    return;
+  }
   LoopFrame frame;
   begin_loop<SIZE>(w, frame, at, end, turn, range);
   do {
@@ -95,16 +105,14 @@ template <int SIZE, class Turn, class Range> static void run_loop(Worker &w, Tas
   loop<SIZE>(w, at, end, turn, range);
 }
 
-static void give_up(Worker &w);
-
 // Of the outermost loop of a region: what a turn takes alone, and whether it is worth others.
 struct Trial {
   double each;
   long at;
 };
 
-// Runs turns alone, until some microseconds have passed and what is left looks worth others.
-template <class Range> static inline Trial tried(long at, long end, const Range &range) {
+// Runs turns alone, until so much time has passed and what is left looks worth others.
+template <class Range> static inline Trial tried(long at, long end, Time least, const Range &range) {
   const Time first = now();
   const long from = at;
   long size = 1;
@@ -115,7 +123,7 @@ template <class Range> static inline Trial tried(long at, long end, const Range 
     at = to;
     Time took = now() - first;
     each = double(took) / double(at - from);
-    if (took >= 3 * MICROSECOND && each * double(end - at) >= double(LIGHT)) break;
+    if (took >= least && each * double(end - at) >= double(LIGHT)) break;
     size = each * 2 * double(size) > 10 * MICROSECOND ? long(10 * MICROSECOND / each) + 1 : size * 2;
   }
   return {each, at};
@@ -125,14 +133,16 @@ template <class Range> static inline Trial tried(long at, long end, const Range 
 // time: asked after 50 microseconds at first, and half as often each time. As what is touched first takes longer, two
 // answers in turn have to say so, each of the turns since the one before.
 struct Judge {
-  double each;
+  double each;      // what a turn takes alone
+  double among = 0; // and among others, of late
   Time begun = now(), last = begun, due = begun + 50 * MICROSECOND, spent = own_time();
   long from;
   unsigned left = 1, gap = 1, slow = 0;
   Judge(double alone, long at) : each(alone), from(at) {}
+  bool is_too_long() const { return among > 0.9 * double(workers) * each; }
   bool finds_slow(long at) {
     if (--left > 0) return false;
-    Time time = now();
+    const Time time = now();
     if (time - last < MICROSECOND) gap *= 2;
     left = gap;
     last = time;
@@ -141,17 +151,53 @@ struct Judge {
   bool is_slow(long at, Time time) {
     due += time - begun;
     const Time own = own_time();
-    const bool takes_longer = double(own - spent) > 0.9 * double(workers) * each * double(at - from);
-    slow = takes_longer && is_shared && !IS_FORCED ? slow + 1 : 0;
+    among = double(own - spent) / double(at - from);
+    slow = is_too_long() && is_shared ? slow + 1 : 0;
     spent = own;
     from = at;
     return slow == 2;
   }
+  // Turns may take longer by now than those that were tried first. So some are tried again, with nobody else about.
+  bool is_right(const Trial &trial) {
+    each = trial.each;
+    from = trial.at;
+    spent = own_time();
+    slow = 0;
+    due = now() + (due - begun);
+    return is_too_long();
+  }
 };
+
+// Tests judge by counting and not by time: each 16th answer is that others make it slow, and each 16th of these is
+// right.
+static unsigned judged = 0;
+static inline bool is_slow(Judge &judge, long at) { return is_forced() ? ++judged % 16 == 0 : judge.finds_slow(at); }
+static inline bool is_right(Judge &judge, const Trial &trial) {
+  return is_forced() ? judged % 256 == 0 : judge.is_right(trial);
+}
+
+// Where others seem to make it slow, some turns are tried alone. If they do, the rest is done alone, too; else all goes
+// on among others.
+template <class Range>
+__attribute__((noinline)) static void doubted(Worker &w, LoopFrame &frame, Judge &judge, const Range &range) {
+  close_region();
+  const Trial trial = tried(frame.at, frame.end, 30 * MICROSECOND, range);
+  frame.at = trial.at;
+  gave_up = is_right(judge, trial);
+  if (!gave_up) open_again();
+  run_returned(w);
+  if (!gave_up) return;
+  range(frame.at, frame.end);
+  frame.at = frame.end;
+}
+
+// What the outermost loop of a region would take alone, by its first turns.
+static double foreseen;
 
 // The turns from `at` on among others, who are let in.
 template <int SIZE, class Turn, class Range>
 static void share_loop(Worker &w, long at, long end, double each, const Turn &turn, const Range &range) {
+  foreseen = each * double(end - at);
   let_in(w);
   LoopFrame frame;
   begin_loop<SIZE>(w, frame, at, end, turn, range);
@@ -159,10 +205,9 @@ static void share_loop(Worker &w, long at, long end, double each, const Turn &tu
   do {
     at = turned<SIZE>(w, frame, at, turn);
     if (w.asked() && is_wanted(w)) give_oldest(w);
-    if (RARE(judge.finds_slow(at))) {
-      give_up(w);
-      range(at, frame.end);
-      break;
+    if (RARE(is_slow(judge, at))) {
+      doubted(w, frame, judge, range);
+      at = frame.at;
     }
   } while (at < frame.end);
   w.end(frame);
@@ -171,7 +216,7 @@ static void share_loop(Worker &w, long at, long end, double each, const Turn &tu
 template <int SIZE, class Turn, class Range>
 __attribute__((noinline)) static void outermost(Worker &w, long at, long end, const Turn &turn, const Range &range) {
   w.tries = false;
-  Trial trial = IS_FORCED ? Trial{0, at} : tried(at, end, range);
+  Trial trial = is_forced() ? Trial{FORCED_TURN, at} : tried(at, end, 3 * MICROSECOND, range);
   if (trial.at >= end) return;
   if (!pays_threads(Time(trial.each * double(end - trial.at)))) return range(trial.at, end);
   share_loop<SIZE>(w, trial.at, end, trial.each, turn, range);

@@ -53,14 +53,6 @@ static inline void wake(std::atomic<unsigned> &at, int many) {
   _exit(1);
 }
 
-// For tests: with FORCED all that is marked is shared, however light, and who could give work waits a little for others
-// to ask.
-#ifdef FORCED
-const bool IS_FORCED = true;
-#else
-const bool IS_FORCED = false;
-#endif
-
 // Addresses under the thread sanitizer are few.
 #if defined(__SANITIZE_THREAD__)
 #define HAS_SANITIZER 1

@@ -13,6 +13,20 @@ const std::size_t LARGE_STACK = std::size_t(1) << 26, SMALL_STACK = LARGE_STACK;
 const std::size_t LARGE_STACK = std::size_t(1) << 30, SMALL_STACK = std::size_t(1) << 26;
 #endif
 
+// How much memory copies have taken, in kilobytes.
+static std::size_t copied() {
+  const std::size_t size = pages() * PAGE;
+  unsigned char *const seen = static_cast<unsigned char *>(std::malloc(pages() + 1));
+  std::size_t found = 0;
+  for (int i = 1; i < workers && seen != nullptr; i++)
+    for (int kind = 0; kind < KINDS; kind++) {
+      if (all[i].off[kind] == nullptr || mincore(space.begin + distance(all[i].off[kind]), size, seen) != 0) continue;
+      for (std::size_t page = 0; page < pages(); page++) found += seen[page] & 1;
+    }
+  std::free(seen);
+  return found * PAGE / 1024;
+}
+
 static double seconds(Time from, Time to) { return double(to - from) / 1e9; }
 
 static void whole() {
@@ -24,9 +38,8 @@ static void whole() {
   if (no_heap == nullptr || std::strcmp(no_heap, "0") != 0) write_objects();
   out.flush();
   if (std::getenv("COMMUTE_TIMES") != nullptr) {
-    unsigned long given = 0;
-    for (int i = 0; i < workers; i++) given += all[i].given;
-    std::fprintf(stderr, "seconds %.6f regions %lu tasks %lu\n", seconds(begun, ended), regions_shared, given);
+    std::fprintf(stderr, "seconds %.6f regions %lu tasks %lu copies %zu\n", seconds(begun, ended), regions_shared,
+                 all_given(), copied());
   }
   _exit(0);
 }

@@ -10,39 +10,27 @@ struct Site {
   const bool begins_with_loop;
   unsigned skip = 0, lights = 0, runs = 0;
   long most = 0; // the turns that were light
-  bool is_alone = false;
-  double alone = 0, many = 0; // what it took
+  bool is_alone = false, is_doubted = false;
+  unsigned slow = 0;          // how many of the last runs by many seemed slow
+  double alone = 0, many = 0; // what it took: a loop a unit
+#ifdef FORCED
+  Forcing forcing;
+#endif
   constexpr explicit Site(bool loop) : begins_with_loop(loop) {}
 };
 
 static bool is_within = false;
-static Time region_begun;
+const Time LONG = 5000 * MICROSECOND;
+static Time region_begun, folded; // and how long the copies of the last one took
 static unsigned looks;
 static unsigned long regions_shared = 0;
 
 // Of a recursion or a walk, whose length nobody knows: it has taken so long.
 static bool is_worth_others() {
-  if (IS_FORCED) return true;
+  if (is_forced()) return true;
   looks++;
   if (looks < 16 ? (looks & (looks - 1)) != 0 : looks % 16 != 0) return false;
   return now() - region_begun >= (has_begun || missed >= THREADS ? LIGHT : THREADS / 2);
-}
-
-// The others end what they are about and give back what is left; then it is done alone.
-static void give_up(Worker &w) {
-  gave_up = true;
-  is_closed.store(true);
-  for (int i = 0; i < workers; i++) {
-    int none = NOBODY;
-    all[i].asking.compare_exchange_strong(none, IS_CLOSED);
-  }
-  while (active.load(std::memory_order_acquire) != 1) pause_briefly();
-  for (Returned *it = returned.exchange(nullptr, std::memory_order_acquire); it != nullptr;) {
-    Returned *next = it->next;
-    it->task.run(w, it->task);
-    std::free(it);
-    it = next;
-  }
 }
 
 static void help_to_end(Worker &w) {
@@ -100,15 +88,13 @@ static inline Way end_region(Worker &w) {
   }
   regions_shared++;
   help_to_end(w);
+  const Time begun = now();
   if (is_shared) fold_all(w);
+  folded = now() - begun;
   opened.fetch_add(1);
   is_shared = false;
   if (!gave_up) return Way::MANY;
-  for (int i = 0; i < workers; i++) {
-    int it = IS_CLOSED;
-    all[i].asking.compare_exchange_strong(it, NOBODY);
-  }
-  is_closed.store(false);
+  open_again();
   return Way::GAVE_UP;
 }
 
@@ -124,15 +110,39 @@ static inline void is_light(Site &site, long units) {
   site.most = units;
 }
 
+static inline double each_of(Time took, long units) { return double(took) / double(units < 1 ? 1 : units); }
+
+// Whether a loop seems no faster by many, three times in turn: its first turns promised as much of one alone, or much
+// of the time goes to copies. Of what takes long no run alone is worth it.
+static inline void doubt(Site &site, long units, Time took) {
+  site.many = each_of(took, units);
+  const bool is_slow = double(took) > 0.9 * foreseen || folded > took / 5;
+  site.slow = is_slow && took < LONG ? site.slow + 1 : 0;
+  site.is_doubted = site.slow == 3;
+}
+
+// Then it is tried alone once, as a whole.
+template <class Alone> static inline void doubted_loop(Site &site, long units, const Alone &alone) {
+  const Time begun = now();
+  alone();
+  site.alone = each_of(now() - begun, units);
+  site.is_alone = site.alone < site.many;
+  site.is_doubted = false;
+  if (site.is_alone) site.slow = 2;
+}
+
 // A loop finds out itself whether it is worth others, and goes back where it isn't; then it is tried each 64th time.
 template <class Alone, class Many>
 static void loop_judged(Site &site, long units, const Alone &alone, const Many &many) {
   const unsigned run = site.runs++;
   if (site.is_alone && run % 64 != 0) return alone();
+  if (site.is_doubted) return doubted_loop(site, units, alone);
   const Time begun = now();
   const Way way = by_many(many, true);
+  const Time took = now() - begun;
   site.is_alone = way == Way::GAVE_UP;
-  if (way == Way::ALONE && now() - begun < LIGHT)
+  if (way == Way::MANY) doubt(site, units, took);
+  if (way == Way::ALONE && took < LIGHT)
     is_light(site, units);
   else
     site.lights = 0;
@@ -142,9 +152,7 @@ static void loop_judged(Site &site, long units, const Alone &alone, const Many &
 template <class Alone, class Many>
 static void recursion_judged(Site &site, long units, const Alone &alone, const Many &many) {
   const unsigned run = site.runs++;
-  const bool goes_alone = run == 0   ? false
-                          : run == 1 ? site.many < 5000 * MICROSECOND
-                                     : (run % 64 == 63) != site.is_alone;
+  const bool goes_alone = run == 0 ? false : run == 1 ? site.many < LONG : (run % 64 == 63) != site.is_alone;
   const Time begun = now();
   double &known = goes_alone ? site.alone : site.many;
   Way way = Way::ALONE;
@@ -161,11 +169,26 @@ static void recursion_judged(Site &site, long units, const Alone &alone, const M
   site.is_alone = site.alone != 0 && site.alone < site.many;
 }
 
+// Whether a region was run as forced.
+template <class Many> static inline bool region_forced([[maybe_unused]] Site &site, [[maybe_unused]] const Many &many) {
+#ifdef FORCED
+  const Time begun = now();
+  const unsigned long before = all_given();
+  site.forcing.begin();
+  if (!is_forced()) return false;
+  by_many(many, site.begins_with_loop);
+  site.forcing.end(now() - begun, all_given() != before);
+  return true;
+#else
+  return false;
+#endif
+}
+
 template <class Alone, class Many>
 __attribute__((noinline)) static void region_judged(Site &site, long units, const Alone &alone, const Many &many) {
   is_within = true;
-  if (IS_FORCED)
-    by_many(many, site.begins_with_loop);
+  if (region_forced(site, many))
+    ;
   else if (site.begins_with_loop)
     loop_judged(site, units, alone, many);
   else

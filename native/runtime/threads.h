@@ -47,7 +47,7 @@ const Time LIGHT = 15 * MICROSECOND, THREADS = 300 * MICROSECOND;
 static Time missed = 0;
 
 static inline bool pays_threads(Time left) {
-  if (has_begun || IS_FORCED) return true;
+  if (has_begun || is_forced()) return true;
   missed += left;
   return missed >= THREADS;
 }
@@ -61,7 +61,8 @@ static void open_region() {
   opened.fetch_add(1);
   if (sleeping.load() > 0) wake(opened, workers - 1);
 #ifdef FORCED
-  for (int i = 0; i < 30 && all[0].asking.load(std::memory_order_relaxed) == NOBODY && workers > 1; i++) usleep(FORCED);
+  for (int i = 0; i < 30 && is_forced() && all[0].asking.load(std::memory_order_relaxed) == NOBODY && workers > 1; i++)
+    usleep(FORCED);
 #endif
 }
 

@@ -42,7 +42,7 @@ const Time SHORT = 100 * MICROSECOND;
 const unsigned SOME = 8;
 
 static inline void run_lowest(Worker &w, Branch &it) {
-  if (!IS_FORCED && w.short_ones >= SOME && w.short_ones++ % 16 != 0) return it.run(w, PLAIN, it);
+  if (!is_forced() && w.short_ones >= SOME && w.short_ones++ % 16 != 0) return it.run(w, PLAIN, it);
   const Time begun = now();
   it.run(w, 0, it);
   w.short_ones = now() - begun < SHORT ? w.short_ones + 1 : 0;

@@ -52,7 +52,7 @@ template <auto NEXT, class Made, class Turn> static bool rest_of_walk(Frame &fra
   if (it.at == nullptr || it.left < 1) return false;
   Part<Made> part{it.at, it.left};
   it.left = 0;
-  task.run = run_walk<NEXT, Made, Turn>;
+  task.run = task.run_alone = run_walk<NEXT, Made, Turn>;
   task.first.keep(it.turn, sizeof(Turn));
   task.second.keep(&part, sizeof(part));
   return true;

@@ -2,6 +2,7 @@
 // Until one asks, a call is a call and a loop a loop: what a worker could give stands in frames on its own stack, which
 // it alone looks at.
 #pragma once
+#include "forcing.h"
 #include "objects.h"
 
 enum Kind { SUM, PRODUCT, MAX, MIN, AND, OR, XOR, KINDS };
@@ -25,7 +26,7 @@ struct Values {
 };
 
 struct Task {
-  void (*run)(Worker &, Task &);
+  void (*run)(Worker &, Task &), (*run_alone)(Worker &, Task &); // among others, and by one when no other has work
   Values first, second;
   long at, end;
 };
@@ -35,7 +36,7 @@ struct Frame {
   Frame *up, *down;
   bool (*part)(Frame &, bool is_top,
                Task *); // makes a task of some of what is left, or tells whether it could where there is none to make
-  bool (*rest)(Frame &, Task &); // makes a task for one alone of all that hasn't begun; false: there is nothing
+  bool (*rest)(Frame &, Task &); // makes a task of all that hasn't begun; false: there is nothing
 };
 
 // Tasks that were given back, since they are done faster by one.
@@ -70,7 +71,8 @@ struct alignas(128) Worker {
 
   bool asked() const {
 #ifdef FORCED
-    for (int i = 0; i < FORCED && asking.load(std::memory_order_relaxed) == NOBODY; i++) pause_briefly();
+    if (is_forced())
+      for (int i = 0; i < FORCED && asking.load(std::memory_order_relaxed) == NOBODY; i++) pause_briefly();
 #endif
     return RARE(asking.load(std::memory_order_relaxed) != NOBODY);
   }
@@ -91,6 +93,12 @@ struct alignas(128) Worker {
 
 static Worker *all;
 static int workers;
+// Tasks that one worker gave another; between regions alone.
+static unsigned long all_given() {
+  unsigned long given = 0;
+  for (int i = 0; i < workers; i++) given += all[i].given;
+  return given;
+}
 static bool is_shared =
     false; // whether others have work of this region: changed by the first worker alone, while none has
 static std::atomic<int> active{0};      // tasks that aren't done, the first worker's with them

@@ -40,9 +40,11 @@ def test_forced(builds: Builds, name: str) -> None:
     runs(builds.forced(KNOWN[name]), KNOWN[name])
 
 
+@pytest.mark.parametrize("shares_apart", [True, False])
 @pytest.mark.parametrize("name", programs.ALL)
-def test_own_forced(builds: Builds, name: str) -> None:
-    assert runs(builds.forced(programs.ALL[name]), programs.ALL[name]) > 0, "no task was given"
+def test_own_forced(builds: Builds, name: str, shares_apart: bool) -> None:
+    program = builds.forced(programs.ALL[name], FORCED, shares_apart)
+    assert runs(program, programs.ALL[name]) > 0, "no task was given"
 
 
 @pytest.mark.parametrize("name", [*dict(samples()), *programs.ALL])
@@ -53,9 +55,9 @@ def test_sanitized(builds: Builds, name: str) -> None:
 
 def test_random(builds: Builds) -> None:
     tasks = 0
-    for name, text in random_programs(COUNT, FIRST):
+    for count, (name, text) in enumerate(random_programs(COUNT, FIRST)):
         try:
-            tasks += runs(builds.forced(text, FORCED), text)
+            tasks += runs(builds.forced(text, FORCED, count % 2 == 0), text)
         except AssertionError as error:
             raise AssertionError(f"{name}: {error}\n{text}") from error
     assert tasks > 0, "no task was given"
@@ -63,8 +65,8 @@ def test_random(builds: Builds) -> None:
 
 
 def test_random_sanitized(builds: Builds) -> None:
-    for name, text in random_programs(COUNT // 4, FIRST + 1000):
+    for count, (name, text) in enumerate(random_programs(COUNT // 4, FIRST + 1000)):
         try:
-            runs(builds.forced(text, SANITIZED), text)
+            runs(builds.forced(text, SANITIZED, count % 2 == 0), text)
         except AssertionError as error:
             raise AssertionError(f"{name}: {error}\n{text}") from error

@@ -58,7 +58,16 @@ EDITS = {
         "values",
     ),
     "objects that come twice are shared": ("apart.h", "it->stamp == last_stamp", "false", "apart"),
+    "objects that come twice go without locks": ("apart.h", "it->stamp == last_stamp", "false", "kinds"),
     "turns are done twice": ("loops.h", "  it.end -= part;", "", "loops"),
+    "turns that are given back are done twice": ("loops.h", "  it.end = it.at;", "", "kinds"),
+    "turns that are tried again are done twice": ("loops.h", "  frame.at = trial.at;", "", "kinds"),
+    "what is given back is lost": (
+        "closing.h",
+        "    (gave_up ? it->task.run_alone : it->task.run)(w, it->task);",
+        "",
+        "kinds",
+    ),
 }
 TRIES = 4
 

@@ -2,6 +2,7 @@
 
 from __future__ import annotations
 
+import functools
 import os
 import pathlib
 import shutil
@@ -12,6 +13,21 @@ from dataclasses import dataclass, field
 NATIVE = pathlib.Path(__file__).resolve().parent.parent
 RUNTIME = NATIVE / "runtime"
 COMMUTE = NATIVE.parent / "commute"
+
+
+# Intel's processors from Skylake to Cascade Lake run a short loop at half the speed where its jump lies over a border of 32
+# bytes. So assemblers are asked to put none there: the one of binutils, and clang's own.
+BORDERS = ("-Wa,-mbranches-within-32B-boundaries", "-mbranches-within-32B-boundaries")
+
+
+@functools.lru_cache(maxsize=None)
+def kept_off_borders(compiler: str) -> tuple[str, ...]:
+    """The word for that, where the compiler knows one for its target."""
+    for word in BORDERS if shutil.which(compiler) else ():
+        asking = [compiler, word, "-x", "assembler", "-c", os.devnull, "-o", os.devnull]
+        if subprocess.run(asking, capture_output=True, check=False).returncode == 0:
+            return (word,)
+    return ()
 
 
 class Fault(Exception):
@@ -29,7 +45,8 @@ class Compiler:
 
     def command(self) -> list[str]:
         folders = [word for folder in (*self.first, str(RUNTIME)) for word in ("-I", folder)]
-        return [self.name, "-std=c++17", "-O2", "-fwrapv", "-pthread", "-Wno-overflow", *folders, *self.words]
+        borders = kept_off_borders(self.name)
+        return [self.name, "-std=c++17", "-O2", "-fwrapv", "-pthread", "-Wno-overflow", *borders, *folders, *self.words]
 
 
 def asked(command: str, text: bytes) -> tuple[int, str]:

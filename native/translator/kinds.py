@@ -220,6 +220,10 @@ class Extent:
     def has_lock(self, method: Method) -> bool:
         return Kind.OTHER in self.used(method)
 
+    def is_free(self) -> bool:
+        """Whether its operations take neither locks nor copies."""
+        return all(kind in (Kind.PUT, Kind.ONCE) for kind in self.kinds.values())
+
 
 def field_puts(method: Method) -> list[Put]:
     return [put for put in puts(method.body) if not isinstance(put.target, Local)]

@@ -2,6 +2,7 @@
 
 from __future__ import annotations
 
+from .apart import may_be_apart
 from .forks import Forks
 from .kinds import Extent
 from .options import Options
@@ -47,25 +48,42 @@ class Regions:
         if not it.is_parallel:
             return None
         sharing = self.extent([self.program.called(call, owner) for call in calls(it.body)])
-        many = sharing.begun_by_loop(it, owner)
         plain = Plain(self.program, owner)
         found = counted(it)
+        if found is not None and self.may_be_apart(it, owner, sharing):
+            names = ("from", "to")
+            head = f"[&](Worker &w, long {names[0]}, long {names[1]})"
+            many = self.where_apart(it, owner, sharing, braced(head, sharing.begun_by_loop(it, owner, names), "});"))
+        else:
+            many = sharing.begun_by_loop(it, owner)
         size = "1" if found is None else f"{plain.expression(found[2])} - {plain.expression(found[1])}"
         return braced("", [site(found is not None), *region(size, plain.loop(it), many)])
 
+    def may_be_apart(self, it: For, owner: str, sharing: Sharing) -> bool:
+        """Whether to look for an object that comes twice: not where that spares nothing."""
+        return self.options.shares_apart and not sharing.extent.is_free() and may_be_apart(it, owner, self.program)
+
     def of_loop_apart(self, it: For, owner: str) -> Lines:
-        """A loop whose receivers are looked at when it runs: its turns are as they stand."""
+        plain, found = Plain(self.program, owner), counted(it)
+        assert found is not None
+        size = f"{plain.expression(found[2])} - {plain.expression(found[1])}"
+        return braced("", [site(True), *region(size, plain.loop(it), self.where_apart(it, owner))])
+
+    def where_apart(self, it: For, owner: str, sharing: Sharing | None = None, marked: Lines | None = None) -> Lines:
+        """A loop whose receivers are looked at when it runs: its turns are as they stand. If an object comes twice it is
+        `marked`, what a marked loop does."""
         plain, found = Plain(self.program, owner), counted(it)
         assert found is not None
         counter, first, bound = found[0].name, plain.expression(found[1]), plain.expression(found[2])
+        size = 1 if sharing is None else sharing.batch(it)
         body = plain.statements(listed(it.body))
         whose = plain.expression(calls(it.body)[0].receiver)
-        receiver = f"[=]([[maybe_unused]] long {counter}) -> Object * {{ return {whose}; }});"
-        many = [*braced(f"loop_apart(w, {first}, {bound}, [=](Worker &, [[maybe_unused]] long {counter})", body, "},")]
-        many += indented(
-            braced(f"[=](long {counter}, long end)", braced(f"for (; {counter} < end; {counter}++)", body), "},")
-        )
-        return braced("", [site(True), *region(f"{bound} - {first}", plain.loop(it), [*many, *indented([receiver])])])
+        receiver = f"[=]([[maybe_unused]] long {counter}) -> Object * {{ return {whose}; }}"
+        called = f"loop_{'apart' if marked is None else 'where_apart'}<{size}>"
+        lines = braced(f"{called}(w, {first}, {bound}, [=](Worker &, [[maybe_unused]] long {counter})", body, "},")
+        turns = braced(f"[=](long {counter}, long end)", braced(f"for (; {counter} < end; {counter}++)", body), "},")
+        end = [receiver + ");"] if marked is None else [receiver + ",", *marked]
+        return [*lines, *indented([*turns, *end])]
 
     def of_value(self, it: Asked, owner: str) -> str | None:
         """A call of a value method as a region: an expression of C++."""

@@ -52,9 +52,13 @@ class Sharing:
         names = ", ".join(f"value{at}" for at in range(len(it.arguments)))
         return [f"auto {each};" for each in handed], [f"to->{it.method}_({names});"], [text.format(levels="LEVELS")]
 
-    def begun_by_loop(self, it: For, owner: str) -> Lines:
+    def begun_by_loop(self, it: For, owner: str, bounds: tuple[str, str] | None = None) -> Lines:
+        """Of a loop by its counter the turns between `bounds`, if they are told."""
         self.begin(owner)
-        return self.loop(it, False)
+        found = counted(it)
+        if bounds is None or found is None:
+            return self.loop(it, False)
+        return self.counted_loop(it, found[0], *bounds)
 
     def begin(self, owner: str) -> None:
         self.method, self.owner, self.rests, self.values = None, owner, 0, 0
@@ -231,7 +235,7 @@ class Sharing:
 
     def counted_loop(self, it: For, counter: Local, first: str, bound: str) -> Lines:
         """A loop's turns among others, and some of them alone."""
-        size = 1 if self.is_forced else self.batch(it)
+        size = self.batch(it)
         name = counter.name
         head = f"loop<{size}>(w, {first}, {bound}, [=]([[maybe_unused]] Worker &w, [[maybe_unused]] long {name})"
         alone = braced(f"for (; {name} < end; {name}++)", self.plain.statements(listed(it.body)))
@@ -239,7 +243,8 @@ class Sharing:
 
     def batch(self, it: For) -> int:
         """How many turns take a quarter of a microsecond or so, by what the text says that one takes at most."""
-        return max(1, min(LONGEST, int(BATCH / (1 + self.weights.statement(it.body, self.owner)))))
+        most = int(BATCH / (1 + self.weights.statement(it.body, self.owner)))
+        return 1 if self.is_forced else max(1, min(LONGEST, most))
 
     # Statements without calls
 

@@ -96,8 +96,8 @@ class Builds:
         compiled(written(read(marked), options, pairs_of(marked)), out, self.compiler(words))
         return out
 
-    def forced(self, text: str, words: tuple[str, ...] = FORCED) -> str:
-        return self.built(text, Options(is_forced=True), words)
+    def forced(self, text: str, words: tuple[str, ...] = FORCED, shares_apart: bool = True) -> str:
+        return self.built(text, Options(is_forced=True, shares_apart=shares_apart), words)
 
 
 def ran(program: str, threads: int) -> Answer:
