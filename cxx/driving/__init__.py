@@ -11,8 +11,10 @@ The driver behind `commute++`, a command with g++'s words. The way of a program:
     judging    the built program against the user's own: bytes and exit code, and time
     runs       programs run within limits
     findings   the loops and recursions: what runs in parallel, and what stands in the others' way
+    contexts   what is run by nothing but what runs in parallel
     shares     how much of the run lies in each
     ranges     where a loop or function of the user's text ends
-    lines      the report as text; page: the report as a page, with style
+    lines      the report as text; page: the report as a page, with style; reports: what of these is asked for
+    language   the same report of a text of the language itself
     remarks    what is said, as compilers say it
 """

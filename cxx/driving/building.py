@@ -2,21 +2,38 @@
 programs of it."""
 
 import os
+import shutil
+import subprocess
 import sys
+import tempfile
 from dataclasses import dataclass
 
 from porting import form
 from porting.port import Ported
 
-from translator import Compiler, Fault, Options, compiled, pairs_of, read, tree, written
+from translator import Compiler, Options, pairs_of, read, tree, written
 from translator.apart import apart
 from translator.building import asked
 
 from . import prints
 
 RUNTIME = os.path.join(os.path.dirname(os.path.abspath(__file__)), "runtime")
-# How long a worker waits for others to ask, where sharing is forced, in microseconds.
+# How long a worker waits for others to ask, where sharing is forced, in pauses and microseconds.
 FORCED = "-DFORCED=300"
+# What is linked beside a built program, so that it has the program of g++ within it.
+OWN = """asm(R"(
+  .section .rodata
+  .balign 16
+  .globl commute_own, commute_own_end
+commute_own:
+  .incbin "%s"
+commute_own_end:
+  .byte 0
+  .previous
+)");
+extern "C" const int commute_least_threads;
+const int commute_least_threads = %d;
+"""
 
 
 class Unbuilt(Exception):
@@ -76,13 +93,50 @@ def shares(text: str) -> bool:
 
 
 def made(text: str, out: str, words: list[str], is_forced: bool = False) -> None:
-    """Compiles a unit."""
-    more = (FORCED,) if is_forced else ()
+    """Compiles a unit, and links it."""
     # What the translator itself makes of a construct is ours to look at, and no warning for a user.
-    try:
-        compiled(text, out, Compiler("g++", (*more, "-w", *words), (RUNTIME,)))
-    except Fault as fault:
-        raise Unbuilt(str(fault)) from None
+    compiler = Compiler("g++", ((FORCED,) if is_forced else ()) + ("-w", *words), (RUNTIME,))
+    with tempfile.TemporaryDirectory(prefix="commute++.") as folder:
+        source = os.path.join(folder, "program.cc")
+        _write(source, text)
+        _call([*compiler.command(), source, "-o", out, "-Wl,--as-needed"])
+
+
+@dataclass
+class Within:
+    """A unit that is compiled, to be linked with the program of g++."""
+
+    folder: str
+    own: str
+    words: list[str]
+
+    def compile(self, text: str) -> None:
+        source = os.path.join(self.folder, "built.cc")
+        _write(source, text.replace('#include "prints.h"', '#include "own.h"', 1))
+        compiler = Compiler("g++", ("-w", *self.words), (RUNTIME,))
+        _call([*compiler.command(), "-c", source, "-o", self._file("built.o")])
+
+    def link(self, out: str, least_threads: int) -> None:
+        """A program that is g++'s where fewer threads may run than these."""
+        # Its own name may have letters that a text of C++ can't have as they are.
+        shutil.copyfile(self.own, self._file("own"))
+        _write(self._file("own.cc"), OWN % (self._file("own"), least_threads))
+        compiler = Compiler("g++", ("-w", *self.words))
+        _call([*compiler.command(), self._file("own.cc"), self._file("built.o"), "-o", out, "-Wl,--as-needed"])
+
+    def _file(self, name: str) -> str:
+        return os.path.join(self.folder, name)
+
+
+def _write(file: str, text: str) -> None:
+    with open(file, "w", encoding="utf-8") as out:
+        out.write(text)
+
+
+def _call(words: list[str]) -> None:
+    status = subprocess.run(words, check=False).returncode
+    if status != 0:
+        raise Unbuilt(f"{words[0]} ended with status {status}")
 
 
 def deep() -> None:

@@ -2,17 +2,20 @@
 
 import os
 import shutil
+import signal
 import subprocess
 import sys
 import tempfile
+from concurrent.futures import ThreadPoolExecutor
 from dataclasses import dataclass, field
 
+from porting import clang
 from porting.port import Porter
 from porting.refusals import FAULTS, Unported
 
 from translator import Options
 
-from . import building, findings, judging, lengths, lines, page, remarks, runs, shares, words
+from . import building, findings, judging, language, lengths, lines, ranges, remarks, reports, runs, shares, words
 from .building import Unbuilt
 from .findings import Findings
 from .judging import Differs, Judgement, Useless
@@ -44,6 +47,8 @@ class Outcome:
 
 def main(given: list[str]) -> int:
     building.deep()
+    # So that what lies in temporary folders goes away, too.
+    signal.signal(signal.SIGTERM, signal.default_int_handler)
     try:
         return whole(words.read(given))
     except KeyboardInterrupt:
@@ -53,6 +58,8 @@ def main(given: list[str]) -> int:
 
 
 def whole(said: Words) -> int:
+    if said.language:
+        return language.told(said)
     if shutil.which("g++") is None:
         print(f"{remarks.NAME}: g++ isn't there: install Debian's package g++", file=sys.stderr)
         return REFUSED
@@ -100,23 +107,46 @@ def make(said: Words, outcome: Outcome, folder: str, built: str, progress: Progr
     progress.say("looking for what may run in parallel")
     outcome.shaped = shaped(porter)
     it = building.marked(outcome.shaped.ported)
-    outcome.found = findings.found(outcome.shaped, building.apart_lines(it))
+    outcome.found = looked(outcome.shaped, it)
     has_shares = building.shares(building.unit(it, it.program(), Options()))
-    if not has_shares and not said.report:
+    if not has_shares and not said.has_shares():
         raise Kept(NOTHING)
     wanted = own_run(said, progress)
     progress.say("finding lengths")
     it = sized(said, outcome, porter, wanted, folder)
-    outcome.found = findings.found(outcome.shaped, building.apart_lines(it))
-    if said.report:
-        shares.measured(it, outcome.found, folder, said.seconds)
+    outcome.found = looked(outcome.shaped, it)
+    if said.has_shares():
+        progress.say("measuring shares")
+        shares.measured(it, outcome.found, folder, said.runner())
     text = building.unit(it, it.program(), Options())
     if not building.shares(text):
         raise Kept(NOTHING)
     progress.say("compiling")
-    building.made(text, built, said.code)
+    within, forced = building.Within(folder, said.out, said.code), os.path.join(folder, "forced")
+    compile_all(said, it, within, text, None if wanted is None else forced)
+    within.link(built, 1)
     if wanted is not None:
-        judge(said, outcome, it, wanted, folder, built, progress)
+        judge(said, outcome, wanted, (built, forced), progress)
+        assert outcome.judgement is not None
+        within.link(built, outcome.judgement.least_threads())
+
+
+def compile_all(said: Words, it: building.Marked, within: building.Within, text: str, forced: str | None) -> None:
+    """Compiles the built program, and beside it the one in which all is shared that may be, if that is wanted."""
+    if forced is None:
+        return within.compile(text)
+    shared = building.unit(it, it.program(), Options(is_forced=True))
+    with ThreadPoolExecutor(max_workers=1) as beside:
+        other = beside.submit(building.made, shared, forced, said.code, True)
+        within.compile(text)
+        other.result()
+
+
+def looked(it: Shaped, marked: building.Marked) -> Findings:
+    """What was found, with the reasons that say most in front."""
+    made = findings.found(it, building.apart_lines(marked))
+    ranges.rank(made, ranges.texts_of([one.place.file for one in made.all]))
+    return made
 
 
 def sized(said: Words, outcome: Outcome, porter: Porter, wanted: runs.Run | None, folder: str) -> building.Marked:
@@ -124,9 +154,7 @@ def sized(said: Words, outcome: Outcome, porter: Porter, wanted: runs.Run | None
     assert outcome.shaped is not None
     it = building.marked(outcome.shaped.ported)
     try:
-        long, seen = lengths.found(it, folder, said.seconds)
-        if wanted is not None:
-            judging.compare(wanted, seen, "ported")
+        long = compared_lengths(said, outcome, it, wanted, folder)
     except (Differs, Unbuilt, runs.Endless) as differs:
         if not outcome.shaped.rewrites:
             raise
@@ -137,29 +165,57 @@ def sized(said: Words, outcome: Outcome, porter: Porter, wanted: runs.Run | None
     return building.marked(outcome.shaped.ported)
 
 
+def compared_lengths(
+    said: Words, outcome: Outcome, it: building.Marked, wanted: runs.Run | None, folder: str
+) -> dict[str, int]:
+    """The lengths of arrays, from a run of the port that has to write what the program of g++ writes."""
+    long, seen = lengths.found(it, folder, said.runner())
+    try:
+        if wanted is not None:
+            judging.compare(wanted, seen, "ported")
+    except Differs:
+        if outcome.shaped is not None and not outcome.shaped.rewrites:
+            look_for_open_orders(said, folder, seen)
+        raise
+    return long
+
+
+def look_for_open_orders(said: Words, folder: str, seen: runs.Run) -> None:
+    """Ends with `Kept` where clang++'s program writes what the port does: then g++ and clang++ don't agree on the
+    user's text."""
+    other = os.path.join(folder, "other")
+    words = [clang.compiler(), "-std=c++17", "-w", *said.reading, *said.sources, "-o", other]
+    if subprocess.run(words, capture_output=True, check=False).returncode != 0:
+        return
+    run = said.runner().run(other)
+    if (run.output, run.code) == (seen.output, seen.code):
+        raise Kept(
+            "what it writes depends on an order that C++ leaves open, such as that of a call's arguments: "
+            "as clang++ compiles it, it writes something else"
+        )
+
+
 def own_run(said: Words, progress: Progress) -> runs.Run | None:
     """The run of g++'s program, which is wanted unless there is to be no check."""
     if not said.check:
         return None
     progress.say("running the program of g++")
-    wanted = runs.run(os.path.abspath(said.out), said.seconds)
+    wanted = said.runner().run(os.path.abspath(said.out))
     if wanted.code >= 128:
         raise Kept(f"the program ends by signal {wanted.code - 128}")
     return wanted
 
 
-def judge(
-    said: Words, outcome: Outcome, it: building.Marked, wanted: runs.Run, folder: str, built: str, progress: Progress
-) -> None:
-    """Looks at the built program; ends by an exception where it isn't worth giving."""
-    progress.say("compiling with all shared")
-    forced = os.path.join(folder, "forced")
-    building.made(building.unit(it, it.program(), Options(is_forced=True)), forced, said.code, True)
+def judge(said: Words, outcome: Outcome, wanted: runs.Run, built: tuple[str, str], progress: Progress) -> None:
+    """Looks at the built program and at the one in which all is shared; ends by an exception where the first isn't
+    worth giving."""
     progress.say("comparing")
-    outcome.judgement = judging.checked(wanted, built, forced, max(2, outcome.threads), said.seconds)
+    outcome.judgement = judging.checked(wanted, *built, max(2, outcome.threads), said.runner())
+    if said.any_speed:
+        return
     progress.say("timing")
-    counts = sorted({outcome.threads} | ({1, 2, 4} if said.report else set()))
-    judging.timed(outcome.judgement, os.path.abspath(said.out), built, counts, said.seconds)
+    counts = sorted({1, 2, outcome.threads} | ({4} if said.has_shares() else set()))
+    judging.timed(outcome.judgement, os.path.abspath(said.out), built[0], counts, said.runner())
     times = outcome.judgement.times(outcome.threads)
     if times < judging.LEAST:
         raise Kept(f"by {outcome.threads} threads the built program is {times:.2f} times as fast as that of g++")
@@ -174,8 +230,10 @@ def tell(said: Words, outcome: Outcome) -> None:
             "not checked"
             if judgement is None
             else f"{judgement.times(outcome.threads):.2f} times as fast by {outcome.threads} threads"
+            if judgement.ratios
+            else "not timed"
         )
-        what = outcome.found.summary() if outcome.found.parallel() else "calls of functions that only compute"
+        what = outcome.found.summary() if outcome.found.parallel() else "parts of its loops, or calls of functions that only compute"
         remarks.remark(file, f"built to run in parallel: {what}; {speed}")
     else:
         place, what = remarks.placed(file, outcome.why)
@@ -188,23 +246,9 @@ def tell(said: Words, outcome: Outcome) -> None:
     if said.remarks:
         for line in outcome.refused[1:]:
             remarks.remark(*remarks.placed(file, line))
-        for one in outcome.found.all:
-            remarks.remark(str(one.place), one.sentence())
-    if said.why:
-        print("\n".join(lines.why(outcome.found, said.why, outcome.why)))
-    if said.report:
-        report(said, outcome)
-
-
-def report(said: Words, outcome: Outcome) -> None:
-    is_page = said.report.endswith((".html", ".htm"))
     about = lines.About(
         said.sources, outcome.is_parallel, outcome.why, outcome.found, outcome.judgement, outcome.threads
     )
     about.rewrites = outcome.shaped.rewrites if outcome.shaped is not None else []
-    text = page.page(about) if is_page else "\n".join(lines.report(about)) + "\n"
-    try:
-        with open(said.report, "w", encoding="utf-8") as out:
-            out.write(text)
-    except OSError as error:
-        print(f"{remarks.NAME}: {said.report}: {error.strerror}", file=sys.stderr)
+    about.refused = outcome.refused
+    reports.give(said, about)

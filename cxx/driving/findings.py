@@ -10,11 +10,15 @@ from porting.places import Place
 from porting.port import Ported
 from porting.reasons import Namer, Reason, unlisted
 
+from .contexts import Contexts
 from .shaping import Shaped
 
 PARALLEL, MIXED, SERIAL = "may run in parallel", "serial, with parallel parts", "serial"
+WITHIN = "serial, within what runs in parallel"
 APART = "may run in parallel where its objects are all different"
 SHARED = (PARALLEL, APART)
+# The states of a place, the one that says least of it first.
+LEAST = (SERIAL, MIXED, WITHIN, APART, PARALLEL)
 AT = re.compile(r" \((?P<file>[^()\s]+):(?P<line>\d+)\)$")
 
 
@@ -49,8 +53,8 @@ class Finding:
     def sentence(self) -> str:
         if self.state in SHARED:
             return f"{self.what} {self.state}"
-        if self.state == MIXED:
-            return f"{self.what}: {MIXED}"
+        if self.state in (MIXED, WITHIN):
+            return f"{self.what}: {self.state}"
         return f"{self.what} is serial" + (f": {self.reasons[0]}" if self.reasons else "")
 
 
@@ -77,11 +81,14 @@ def found(shaped: Shaped, apart: set[int]) -> Findings:
     ported = shaped.ported
     blocks, namer = told.Blocks(ported), Namer(ported)
     heads = {f"loop {line}" for line in apart}
-    ones = [*_loops(ported, blocks, namer, heads), *_methods(shaped, blocks, namer, heads)]
+    contexts = Contexts(ported, lambda head: head in heads or bool(blocks.marks.get(head)))
+    ones = [*_loops(ported, blocks, namer, heads, contexts), *_methods(shaped, blocks, namer, heads, contexts)]
     return Findings(_merged(ones))
 
 
-def _loops(ported: Ported, blocks: told.Blocks, namer: Namer, apart: set[str]) -> list[Finding]:
+def _loops(
+    ported: Ported, blocks: told.Blocks, namer: Namer, apart: set[str], contexts: Contexts
+) -> list[Finding]:
     made = []
     for at, statement in enumerate(ported.text.statements):
         if not isinstance(statement, (form.Loop, form.Count)) or not statement.user or not is_users(statement.place):
@@ -93,17 +100,21 @@ def _loops(ported: Ported, blocks: told.Blocks, namer: Namer, apart: set[str]) -
             continue
         reasons = ranked(blocks, head, namer) if head in blocks.marks else [unlisted(statement)]
         state = MIXED if _has_marked(statement.body, blocks, ported, apart) else SERIAL
+        state = WITHIN if state == SERIAL and contexts.has_loop(statement) else state
         made.append(Finding(statement.place, "loop", state, reasons, _pairs(blocks, head, namer), [head]))
     return made
 
 
-def _methods(shaped: Shaped, blocks: told.Blocks, namer: Namer, apart: set[str]) -> list[Finding]:
+def _methods(
+    shaped: Shaped, blocks: told.Blocks, namer: Namer, apart: set[str], contexts: Contexts
+) -> list[Finding]:
     """The recursions of the user, and his loops that became methods."""
     made = []
     for method in shaped.ported.program.methods():
         loop = shaped.turned.get(method)
         place = loop or method.place
-        if not is_users(place) or method.origin.startswith(("stop ", "a ")) or not (loop or calls_itself(method)):
+        is_recursion = calls_itself(method) and not method.origin.startswith(("stop ", "a "))
+        if not is_users(place) or not (loop or is_recursion):
             continue
         head, what = f"op {method!r}", "loop" if loop else f"recursion {method.origin}"
         if blocks.marks.get(head):
@@ -111,6 +122,7 @@ def _methods(shaped: Shaped, blocks: told.Blocks, namer: Namer, apart: set[str])
             continue
         reasons = [GIVES_BACK] if method.pure else ranked(blocks, head, namer)
         state = MIXED if _has_marked(method.body, blocks, shaped.ported, apart) else SERIAL
+        state = WITHIN if state == SERIAL and contexts.has_method(method) else state
         made.append(Finding(place, what, state, reasons, _pairs(blocks, head, namer), [head]))
     return made
 
@@ -182,7 +194,7 @@ def is_users(place: Place) -> bool:
 
 
 def _merged(ones: list[Finding]) -> list[Finding]:
-    """One for each place: several instances of one text are parallel where all are."""
+    """One for each place: of several instances of one text the one that says least."""
     made: dict[tuple[str, int, int, str], Finding] = {}
     for one in ones:
         key = (one.place.file, one.place.line, one.place.column, one.what.split()[0])
@@ -190,7 +202,7 @@ def _merged(ones: list[Finding]) -> list[Finding]:
         if known is None:
             made[key] = one
             continue
-        kept, other = (known, one) if known.state not in SHARED else (one, known)
+        kept, other = (known, one) if LEAST.index(known.state) <= LEAST.index(one.state) else (one, known)
         kept.heads = [*kept.heads, *other.heads]
         made[key] = kept
     return [made[key] for key in sorted(made)]

@@ -6,10 +6,13 @@ from dataclasses import dataclass, field
 from .runs import Endless, Run, run
 
 TIMES = re.compile(r"^seconds (\S+) regions (\d+) tasks (\d+)$", re.M)
+PLACES = re.compile(r"^forced places (\d+) shared (\d+)$", re.M)
 # Rounds of timing, by turns: where runs take long, fewer, and where they are short, more.
 ROUNDS, MOST_ROUNDS, SHORT, LONG = 5, 25, 1.5, 20.0
 # How many times as fast the built program has to be: below, what is seen may be chance.
 LEAST = 1.05
+# Processor times aren't known below, in seconds.
+TICK = 0.001
 # On a busy machine other threads may not get to run at all.
 TRIES = 3
 
@@ -24,15 +27,29 @@ class Useless(Exception):
 
 @dataclass
 class Judgement:
-    """What was seen: how many pieces of work were given to other threads where that was forced, and the walls, in
-    seconds."""
+    """What was seen: how many pieces of work were given to other threads where that was forced, at how many of the
+    places where work is shared; and the walls, in seconds."""
 
     given: int = 0
+    places: int = 0
+    shared: int = 0
     own: float = 0.0
     walls: dict[int, float] = field(default_factory=dict)
+    # The program of g++ over the built one, of which one thread is judged by the processor time, which others don't
+    # disturb.
+    ratios: dict[int, float] = field(default_factory=dict)
 
-    def times(self, threads: int) -> float:
-        return self.own / self.walls[threads] if threads in self.walls else 0.0
+    def times(self, count: int) -> float:
+        return self.ratios.get(count, 0.0)
+
+    def least_threads(self) -> int:
+        """By so many threads and by all more that were measured the built program is as fast as that of g++."""
+        least = max(self.ratios, default=1)
+        for count in sorted(self.ratios, reverse=True):
+            if self.ratios[count] < 1:
+                break
+            least = count
+        return least if least > min(self.ratios, default=1) else 1
 
 
 def compare(wanted: Run, seen: Run, how: str) -> None:
@@ -56,39 +73,51 @@ def _quoted(line: bytes | None) -> str:
     return "missing" if line is None else repr(line.decode(errors="replace"))[:100]
 
 
-def checked(wanted: Run, built: str, forced: str, threads: int, seconds: float) -> Judgement:
+@dataclass
+class Runner:
+    """How programs are run: the longest that a run may take, in seconds, and what they are called with."""
+
+    seconds: float
+    arguments: tuple[str, ...] = ()
+
+    def run(self, program: str, threads: int | None = None) -> Run:
+        return run(program, self.seconds, threads, self.arguments)
+
+
+def checked(wanted: Run, built: str, forced: str, most: int, how: Runner) -> Judgement:
     """Compares runs of the built program by one thread and by many, and one in which all is shared that may be."""
-    longest = min(seconds, 10.0 + 10.0 * wanted.seconds)
-    for count in dict.fromkeys((1, threads)):
+    longest = min(how.seconds, 10.0 + 10.0 * wanted.seconds)
+    for count in dict.fromkeys((1, most)):
         try:
-            compare(wanted, run(built, longest, count), f"by {_threads(count)}")
+            compare(wanted, run(built, longest, count, how.arguments), f"by {threads(count)}")
         except Endless:
-            raise Useless(f"by {_threads(count)} the built program takes more than {longest:.0f} seconds") from None
+            raise Useless(f"by {threads(count)} the built program takes more than {longest:.0f} seconds") from None
     for _ in range(TRIES):
         try:
-            seen = run(forced, seconds, max(2, threads))
+            seen = how.run(forced, max(2, most))
         except Endless as endless:
             raise Useless(f"with all that may be shared shared, {endless}, so that couldn't be compared") from None
         compare(wanted, seen, "with all that may be shared shared")
-        told = TIMES.search(seen.errors)
+        told, places = TIMES.search(seen.errors), PLACES.search(seen.errors)
         if told and int(told[3]) > 0:
-            return Judgement(int(told[3]))
+            return Judgement(int(told[3]), *((int(places[1]), int(places[2])) if places else (0, 0)))
     raise Useless("no thread gave work to another, so that sharing couldn't be compared")
 
 
-def timed(judgement: Judgement, own: str, built: str, counts: list[int], seconds: float) -> None:
+def timed(judgement: Judgement, own: str, built: str, counts: list[int], how: Runner) -> None:
     """The least wall of each, by turns."""
     spent, rounds = 0.0, 0
-    walls: dict[int, list[float]] = {count: [] for count in (0, *counts)}
+    seen: dict[int, list[Run]] = {count: [] for count in (0, *counts)}
     while rounds == 0 or (rounds < ROUNDS and spent < LONG) or (rounds < MOST_ROUNDS and spent < SHORT):
-        for count, each in walls.items():
-            took = run(own, seconds).seconds if count == 0 else run(built, seconds, count).seconds
-            each.append(took)
-            spent += took
+        for count, each in seen.items():
+            each.append(how.run(own) if count == 0 else how.run(built, count))
+            spent += each[-1].seconds
         rounds += 1
-    judgement.own = min(walls[0])
-    judgement.walls = {count: min(walls[count]) for count in counts}
+    walls = {count: min(one.seconds for one in each) for count, each in seen.items()}
+    busy = {count: max(min(one.busy for one in each), TICK) for count, each in seen.items()}
+    judgement.own, judgement.walls = walls[0], {count: walls[count] for count in counts}
+    judgement.ratios = {count: busy[0] / busy[1] if count == 1 else walls[0] / walls[count] for count in counts}
 
 
-def _threads(count: int) -> str:
+def threads(count: int) -> str:
     return "one thread" if count == 1 else f"{count} threads"

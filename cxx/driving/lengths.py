@@ -12,8 +12,10 @@ from porting.port import Ported
 
 from translator import Options
 
-from . import building, runs
+from . import building
 from .building import Unbuilt
+from .judging import Runner
+from .runs import Run
 
 PREFIX = "commute-length"
 FIELD = re.compile(r"^  (long |bool |\w+_class \*)(\w+)_\[(\d+)\];$")
@@ -43,20 +45,20 @@ def with_growing(text: str, names: set[str]) -> str:
     return "\n".join([*lines, "static void show_at_end() {", *shown, "}", ""])
 
 
-def found(it: building.Marked, folder: str, seconds: float) -> tuple[dict[str, int], runs.Run]:
+def found(it: building.Marked, folder: str, how: Runner) -> tuple[dict[str, int], Run]:
     """The lengths, and the run that found them."""
     heads = ['#include "growing.h"', "static void show_at_end();"]
     text = building.unit(it, it.program(), Options(is_plain=True), heads)
     program = os.path.join(folder, "lengths")
     building.made(with_growing(text, growing(it.ported)), program, ["-O1"])
-    run = runs.run(program, seconds, 1)
+    run = how.run(program, 1)
     lengths = {name: int(longest) for name, longest in SHOWN.findall(run.errors)}
     missing = growing(it.ported) - lengths.keys()
     if missing:
         raise Unbuilt(f"the run that finds lengths ended with status {run.code}")
     too_long = [name for name, longest in lengths.items() if longest > GREATEST_CAPACITY]
     if too_long:
-        raise Unbuilt(f"{shown(it.ported, too_long[0])} has more than {GREATEST_CAPACITY:,} items")
+        raise Unbuilt(f"{shown(it.ported, too_long[0])}: more than {GREATEST_CAPACITY:,} items in one vector or array")
     return {name: max(1, longest) for name, longest in lengths.items()}, run
 
 

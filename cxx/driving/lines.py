@@ -4,10 +4,14 @@ from dataclasses import dataclass, field
 
 from porting.places import Place
 
-from .findings import MIXED, SHARED, Finding, Findings
-from .judging import Judgement
+from .findings import MIXED, SHARED, WITHIN, Finding, Findings
+from .judging import Judgement, threads
 
 PROVED = "Proved: that the marked calls of the ported text may run in any order. Checked by running: the rest."
+RANKED = (
+    "Reasons are ranked: first what no order can mend (it prints, it makes objects), then what stands within the loop "
+    "or function itself, then what stands elsewhere, then what has no line."
+)
 
 
 @dataclass
@@ -21,12 +25,18 @@ class About:
     judgement: Judgement | None
     threads: int
     rewrites: list[tuple[Place, str]] = field(default_factory=list)
+    # Each thing that isn't understood, with its place.
+    refused: list[str] = field(default_factory=list)
+    # Of a text of the language no program is made.
+    is_language: bool = False
 
     def title(self) -> str:
         return f"{', '.join(self.files)}: {self.found.summary()}"
 
     def given(self) -> str:
         """Which program was given, in a sentence."""
+        if self.is_language:
+            return "The text is one of the language itself: no program was made."
         if not self.is_parallel:
             return f"The program is what g++ makes: {self.why}."
         return "The program runs in parallel" + ("." if self.judgement is not None else "; it wasn't checked.")
@@ -63,7 +73,7 @@ def shown_share(one: Finding) -> str:
 
 def of(one: Finding) -> list[str]:
     lines = [f"{one.place}: {one.what}: {one.state}{shown_share(one)}"]
-    if one.state not in (*SHARED, MIXED) and one.reasons:
+    if one.state not in (*SHARED, MIXED, WITHIN) and one.reasons:
         lines.append(f"    because: {one.reasons[0].said}")
         if one.reasons[0].mended:
             lines.append(f"    change:  {one.reasons[0].mended}")

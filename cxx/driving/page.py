@@ -5,12 +5,13 @@ import os
 from html import escape
 
 from . import lines
-from .findings import APART, MIXED, PARALLEL, SHARED, Finding, Pair
+from .findings import APART, MIXED, PARALLEL, SHARED, WITHIN, Finding, Pair
+from .judging import threads
 from .lines import About, percent
-from .ranges import Ranges
+from .ranges import Ranges, texts_of
 from .style import STYLE
 
-SHORT = {PARALLEL: "par", APART: "par", MIXED: "mix"}
+SHORT = {PARALLEL: "par", APART: "par", MIXED: "mix", WITHIN: "mix"}
 # A matrix of more functions than these can't be read.
 MOST_FUNCTIONS = 12
 # Below these a share has no piece of the bar.
@@ -29,7 +30,7 @@ class Page:
     def __init__(self, about: About) -> None:
         self.about = about
         files = list(dict.fromkeys([*about.files, *(one.place.file for one in about.found.all)]))
-        self.texts = {file: text for file in files if (text := _read(file)) is not None}
+        self.texts = texts_of(files)
         self.ranges = {file: Ranges(text, file, about.found) for file, text in self.texts.items()}
         self.numbers = {id(one): number for number, one in enumerate(about.found.all, 1)}
         self.outer = [
@@ -64,7 +65,7 @@ class Page:
 
     def head(self) -> list[str]:
         about = self.about
-        told = [about.given(), about.checks(), about.speeds()]
+        told = [about.given(), about.checks()]
         made = [f"<header><h1>{escape(about.title())}</h1>", *(f"<p>{escape(one)}</p>" for one in told if one)]
         shares = [one for one in self.outer if one.share is not None]
         if any(one.share is not None for one in about.found.all):
@@ -75,8 +76,23 @@ class Page:
                 f"at most {least:.2f} times as fast by {about.threads} threads.</p>"
             )
             made += self.bar(shares, whole)
-        made.append(f'<p class="soft">{lines.PROVED} A share has the calls inside in it.</p></header>')
+        made += self.speeds()
+        made.append(f'<p class="soft">{lines.PROVED} A share has the calls inside in it. {lines.RANKED}</p></header>')
         return made
+
+    def speeds(self) -> list[str]:
+        """What was measured, as a table."""
+        judgement = self.about.judgement
+        if judgement is None or not judgement.walls:
+            return []
+        heads = "".join(f'<th scope="col">{threads(count)}</th>' for count in judgement.walls)
+        times = "".join(f"<td>{judgement.times(count):.2f}</td>" for count in judgement.walls)
+        walls = "".join(f"<td>{wall:.3f} s</td>" for wall in judgement.walls.values())
+        return [
+            f'<div class="scroll"><table><thead><tr><td></td>{heads}</tr></thead><tbody>',
+            f'<tr><th scope="row">it takes (that of g++ {judgement.own:.3f} s)</th>{walls}</tr>',
+            f'<tr><th scope="row">times as fast as that of g++</th>{times}</tr></tbody></table></div>',
+        ]
 
     def bar(self, shares: list[Finding], whole: float) -> list[str]:
         pieces, left = [], 1.0
@@ -164,6 +180,8 @@ class Page:
                 '<p class="soft">Its iterations come one after the other; '
                 "what is parallel inside runs in parallel within each.</p>"
             )
+        elif one.state == WITHIN:
+            made.append('<p class="soft">It is a part of what runs in parallel, each time by one thread.</p>')
         elif one.state not in SHARED and one.reasons:
             made += self.reason(one)
         return [*made, *self.matrix(one), "</section>"]
@@ -201,14 +219,6 @@ def _cell(pair: Pair | None) -> str:
     if pair.reason is None:
         return '<td class="yes" title="in any order">any</td>'
     return f'<td class="no" title="{escape(str(pair.reason))}">order</td>'
-
-
-def _read(file: str) -> str | None:
-    try:
-        with open(file, encoding="utf-8", errors="replace") as text:
-            return text.read()
-    except OSError:
-        return None
 
 
 def page(about: About) -> str:

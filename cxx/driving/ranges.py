@@ -3,7 +3,9 @@ in which."""
 
 import re
 
-from .findings import Finding, Findings
+from porting.reasons import Reason
+
+from .findings import AT, Finding, Findings
 
 # Literals and comments have no brackets; what goes over lines is a comment.
 PASSED = re.compile(r'"(?:\\.|[^"\\])*"|' + r"'(?:\\.|[^'\\])'|//[^\n]*|/\*.*?\*/", re.S)
@@ -50,3 +52,34 @@ class Ranges:
     def outermost(self, ones: list[Finding]) -> list[Finding]:
         """Those that lie in no other of them."""
         return [one for one in ones if not any(self.holds(other, one) for other in ones)]
+
+
+def rank(found: Findings, texts: dict[str, str]) -> None:
+    """Sorts reasons so that the first says most: what no order can mend, then what stands within the loop or function
+    itself, then what has another place, then the rest. Those alike stay as they are."""
+    for file, text in texts.items():
+        ranges = Ranges(text, file, found)
+        for one in ranges.mine:
+            one.reasons.sort(key=lambda reason: _rank(reason, file, one.place.line, ranges.ends[id(one)]))
+
+
+def _rank(reason: Reason, file: str, first: int, last: int) -> int:
+    place = AT.search(reason.said)
+    if place is None:
+        return 3
+    is_within = place["file"] == file and first <= int(place["line"]) <= last
+    if is_within and any(word in reason.said for word in (" make objects", " makes objects", " print ", " prints ")):
+        return 0
+    return 1 if is_within else 2
+
+
+def texts_of(files: list[str]) -> dict[str, str]:
+    """The texts of files, as far as they can be read."""
+    made = {}
+    for file in dict.fromkeys(files):
+        try:
+            with open(file, encoding="utf-8", errors="replace") as text:
+                made[file] = text.read()
+        except OSError:
+            continue
+    return made

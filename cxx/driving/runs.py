@@ -16,12 +16,13 @@ GREATEST_OUTPUT = 1 << 30
 
 @dataclass
 class Run:
-    """What a run wrote, its exit code as a shell has it, and its wall in seconds."""
+    """What a run wrote, its exit code as a shell has it, its wall and what it took of processors, in seconds."""
 
     output: bytes
     errors: str
     code: int
     seconds: float
+    busy: float = 0.0
 
 
 class Endless(Exception):
@@ -47,16 +48,16 @@ def _limits_of_own() -> None:
     _limit(resource.RLIMIT_DATA, int(os.sysconf("SC_PAGE_SIZE") * os.sysconf("SC_PHYS_PAGES") * PART))
 
 
-def run(program: str, seconds: float, threads: int | None = None) -> Run:
-    """A run of a program, by so many threads where it is a built one."""
+def run(program: str, seconds: float, threads: int | None = None, words: tuple[str, ...] = ()) -> Run:
+    """A run of a program with words behind its name, by so many threads where it is a built one."""
     environment = dict(os.environ)
     if threads is not None:
         environment |= {"COMMUTE_THREADS": str(threads), "COMMUTE_TIMES": "1"}
     with tempfile.TemporaryFile() as out, tempfile.TemporaryFile() as errors:
-        begun = time.monotonic()
+        begun, before = time.monotonic(), _spent()
         limits = _limits_of_own if threads is None else _limits
         started = subprocess.Popen(
-            [program],
+            [program, *words],
             stdin=subprocess.DEVNULL,
             stdout=out,
             stderr=errors,
@@ -71,10 +72,16 @@ def run(program: str, seconds: float, threads: int | None = None) -> Run:
             if isinstance(error, subprocess.TimeoutExpired):
                 raise Endless(seconds) from None
             raise
-        took = time.monotonic() - begun
+        took, busy = time.monotonic() - begun, _spent() - before
         out.seek(0)
         errors.seek(0)
-        return Run(out.read(), errors.read().decode(errors="replace"), 128 - code if code < 0 else code, took)
+        return Run(out.read(), errors.read().decode(errors="replace"), 128 - code if code < 0 else code, took, busy)
+
+
+def _spent() -> float:
+    """The processor time of all runs that are over."""
+    used = resource.getrusage(resource.RUSAGE_CHILDREN)
+    return used.ru_utime + used.ru_stime
 
 
 def _end(started: "subprocess.Popen[bytes]") -> None:

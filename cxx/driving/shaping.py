@@ -1,16 +1,15 @@
 """Not proved (../README.md). The ported text of a program, in the shape that is analysed.
 
-Rewrites of the form come in here, from `porting/shaping`, where that is there: they change a program's shape, and not
-what it prints. Else the text is the plain port.
+Rewrites of the form come in here, from `porting/shaping`: they change a program's shape, and not what it prints.
 """
 
-import importlib
-import importlib.util
 from dataclasses import dataclass, field
 
 from porting import form
 from porting.places import Place
 from porting.port import Ported, Porter
+from porting.shaping.marks import finished
+from porting.shaping.search import searched
 from porting.text import Text
 
 
@@ -39,10 +38,6 @@ def plain(porter: Porter) -> Shaped:
 
 def shaped(porter: Porter) -> Shaped:
     """The port in the best shape that is found."""
-    if importlib.util.find_spec("porting.shaping") is None:
-        return plain(porter)
-    search = importlib.import_module("porting.shaping.search")
     program, sites = porter.lowered({})
-    importlib.import_module("porting.finishing").begin(program)
-    done, text, stops = search.finished(search.searched(program))
+    done, text, stops = finished(searched(program))
     return Shaped(Ported(porter.files, done.program, text, sites, stops), done.told, done.loops)

@@ -8,8 +8,10 @@ from porting import form
 
 from translator import Options, tree
 
-from . import building, runs
+from . import building
 from .findings import Findings
+from .judging import Runner
+from .runs import Endless
 
 SHOWN = re.compile(r"^commute-share (\S+) (\S+) (\d+)$", re.M)
 
@@ -58,21 +60,37 @@ def _calls(it: tree.Statement) -> bool:
     return bool(tree.calls(it)) or any(isinstance(part, tree.Asked) for part in tree.all_inside(it))
 
 
-def measured(it: building.Marked, found: Findings, folder: str, seconds: float) -> None:
+def heads_of(found: Findings) -> set[str]:
+    """The operations of what was found."""
+    return {head[3:] for one in found.all for head in one.heads if head.startswith("op ")}
+
+
+def clocked(clocks: Clocks) -> list[str]:
+    """What stands in front of a program with clocks."""
+    count = len(clocks.heads)
+    return [
+        '#include "clocks.h"',
+        f"Clock clocks[{count + 1}];",
+        f"static void show_at_end() {{ show_clocks({count}); }}",
+    ]
+
+
+def measured(it: building.Marked, found: Findings, folder: str, how: Runner) -> None:
     """Sets the shares of what was found; where they can't be had they stay unknown."""
     program = it.program()
     counted = building.counted_lines(it.ported)
     uncounted = [line for line, one in enumerate(it.ported.text.statements, 1) if isinstance(one, form.Loop)]
-    recursive = {head[3:] for one in found.all for head in one.heads if head.startswith("op ")}
-    clocks = Clocks(program, counted, uncounted, recursive)
-    count = len(clocks.heads)
-    heads = ['#include "clocks.h"', f"Clock clocks[{count + 1}];"]
-    heads += [f"static void show_at_end() {{ show_clocks({count}); }}"]
+    clocks = Clocks(program, counted, uncounted, heads_of(found))
+    take(building.unit(it, program, Options(is_plain=True), clocked(clocks)), clocks, found, folder, how)
+
+
+def take(text: str, clocks: Clocks, found: Findings, folder: str, how: Runner) -> None:
+    """Runs the text of a program with clocks."""
     out = os.path.join(folder, "clocked")
     try:
-        building.made(building.unit(it, program, Options(is_plain=True), heads), out, [])
-        run = runs.run(out, seconds, 1)
-    except (building.Unbuilt, runs.Endless):
+        building.made(text, out, [])
+        run = how.run(out, 1)
+    except (building.Unbuilt, Endless):
         return
     seen = {name: (float(took), int(times)) for name, took, times in SHOWN.findall(run.errors)}
     whole = seen.get("all", (0.0, 0))[0]

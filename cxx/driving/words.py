@@ -3,7 +3,10 @@ dashes."""
 
 import argparse
 import os
+import shlex
 from dataclasses import dataclass, field
+
+from .judging import Runner
 
 SOURCES = (".cc", ".cpp", ".cxx", ".c++", ".cp", ".C")
 # Words of g++ whose value may be the next word.
@@ -64,15 +67,29 @@ class Words:
     remarks: bool = False
     must: bool = False
     check: bool = True
+    any_speed: bool = False
+    # What the program is called with where it is run.
+    arguments: tuple[str, ...] = ()
+    json: bool = False
+    # A text of the language itself, of which a report is made.
+    language: str = ""
     seconds: int = SECONDS
+
+    def has_shares(self) -> bool:
+        """Whether somebody reads how much of the run lies where."""
+        return bool(self.report) or self.json
+
+    def runner(self) -> Runner:
+        return Runner(self.seconds, self.arguments)
 
     def is_left_to_gxx(self) -> bool:
         return self.is_exact or not self.sources or bool(self.others)
 
 
 USAGE = (
-    "commute++ [word of g++ ..] FILE .. [-o OUT] [--report PAGE] [--remarks] [--why LINE] [--must-parallel] "
-    "[--no-check] [--check-seconds N]"
+    "commute++ [word of g++ ..] FILE .. [-o OUT] [--report PAGE] [--remarks] [--why LINE] [--json]\n"
+    "                 [--must-parallel] [--check ARGUMENTS] [--no-check] [--any-speed] [--check-seconds N]\n"
+    "       commute++ --language FILE [--report PAGE] [--remarks] [--why LINE] [--json]"
 )
 EPILOG = """All other words are g++'s. OUT is there, and the status is 0, whenever g++ makes a program: where nothing can run in parallel, where the built program writes other bytes, or isn't faster, OUT is what g++ makes. With
 -c, -E, -S and their like, and with objects or libraries among the files, it is g++ exactly.
@@ -111,9 +128,29 @@ def parser() -> argparse.ArgumentParser:
     made.add_argument(
         "--why", metavar="LINE", type=int, help="says all that stands in the way of the loop or recursion at the line"
     )
+    made.add_argument(
+        "--json", action="store_true", help="says on standard output, as one value of JSON, all that the report has"
+    )
     made.add_argument("--must-parallel", action="store_true", help="status 1 where OUT doesn't run in parallel")
+    _add_check(made)
+    made.add_argument(
+        "--language",
+        metavar="FILE",
+        help="makes the same report of a text of the language of commute; OUT isn't made",
+    )
+    return made
+
+
+def _add_check(made: argparse.ArgumentParser) -> None:
+    """Adds the words that say how what is built is checked."""
+    made.add_argument(
+        "--check", metavar="ARGUMENTS", default="", help="what the program is called with where it is run"
+    )
     made.add_argument(
         "--no-check", action="store_true", help="neither runs the user's program nor compares or times the built one"
+    )
+    made.add_argument(
+        "--any-speed", action="store_true", help="gives the built program whether or not it is faster; times nothing"
     )
     made.add_argument(
         "--check-seconds",
@@ -122,7 +159,13 @@ def parser() -> argparse.ArgumentParser:
         default=SECONDS,
         help=f"the longest that a run may take; {SECONDS} if not said",
     )
-    return made
+
+
+def _split(arguments: str) -> tuple[str, ...]:
+    try:
+        return tuple(shlex.split(arguments))
+    except ValueError as error:
+        parser().error(f"argument --check: {error}")
 
 
 def read(given: list[str]) -> Words:
@@ -138,6 +181,10 @@ def read(given: list[str]) -> Words:
         remarks=own.remarks,
         must=own.must_parallel,
         check=not own.no_check,
+        any_speed=own.any_speed,
+        arguments=_split(own.check),
+        json=own.json,
+        language=own.language or "",
         seconds=max(1, own.check_seconds),
     )
     _look_at(made, rest)

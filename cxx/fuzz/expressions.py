@@ -92,6 +92,8 @@ class Expressions:
             forms += [
                 f"(({left} & 1023) << {random.randrange(1, 8)})",
                 f"(({left} & 65535) >> {random.randrange(1, 8)})",
+                f"({left} >> {random.randrange(1, 31)})",
+                f"({left} {random.choice('/%')} (-{random.choice((2, 3, 7))}))",
             ]
             forms += [f"({kind})({right})", f"(unsigned char)({left})", f"(int)(short)({left})"]
         return random.choice(forms)

@@ -9,7 +9,14 @@ from shapes import INTEGERS, Class, Items, Method, Pointer, Scope, Variable
 import extras
 from statements import Lines, indented
 
-HEAD = ["#include <algorithm>", "#include <cstdio>", "#include <iostream>", "#include <vector>", ""]
+HEAD = [
+    "#include <algorithm>",
+    "#include <cstdio>",
+    "#include <cstdlib>",
+    "#include <iostream>",
+    "#include <vector>",
+    "",
+]
 ARRAY = 4
 
 

@@ -41,7 +41,9 @@ def compiled(files: list[str], words: list[str], out: str) -> None:
     beside = out + ".unbuffered.cc"
     with open(beside, "w", encoding="utf-8") as text:
         text.write(UNBUFFERED)
-    done = subprocess.run(["g++", *FLAGS, *words, *files, beside, "-o", out], capture_output=True, check=False)
+    done = subprocess.run(
+        ["g++", *FLAGS, *words, "-x", "c++", *files, beside, "-o", out], capture_output=True, check=False
+    )
     if done.returncode:
         first = done.stderr.decode(errors="replace").strip().splitlines()
         raise Differs("g++ refuses the program:\n" + "\n".join(first[:20]), False)
@@ -105,7 +107,8 @@ def _ended(ported: Ported, told: Written) -> None:
     stop = stop_at(ported, int(words[1])) if words[:1] == ["trap"] else None
     if stop is None:
         at = ported.text.places[int(words[1]) - 1]
-        raise Differs(f"{at}: {TRAPS.get(words[2], words[2])}: the run of the port ends here")
+        said = f"{at}: {TRAPS.get(words[2], words[2])}: the run of the port ends here"
+        raise Differs(said, words[2] != "HeapFull")
     told.end = None
     if ported.sites.stops[stop].assertion:
         told.code = 134

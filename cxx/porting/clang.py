@@ -9,14 +9,19 @@ import os
 import re
 import shutil
 import subprocess
+import tempfile
 from typing import Any, Iterator
 
+from . import lacking as lacking_of
 from .places import NOWHERE, Place
 from .refusals import Unported
 
 Node = dict[str, Any]
 
 INCLUDE = os.path.join(os.path.dirname(os.path.dirname(os.path.abspath(__file__))), "include")
+ASKED = (
+    "-fsyntax-only", "-w", "-ferror-limit=0", "-fno-caret-diagnostics", "-Xclang", "-ast-dump=json", "-x", "c++", "-",
+)  # fmt: skip
 COMPILERS = ("clang++-14", "clang++")
 STANDARD = "-std=c++17"
 
@@ -93,43 +98,80 @@ def compiler() -> str:
 def unit(files: list[str], words: list[str]) -> Unit:
     """The unit of the files; `words` are `-I DIR` and `-D NAME` as compilers have them."""
     for file in files:
-        if not os.path.isfile(file):
-            raise Unported([f"{file}: no such file"], True)
+        _readable(file)
+    with tempfile.TemporaryDirectory() as empty:
+        refused: list[str] = []
+        while True:
+            done = _asked(files, [*words, "-isystem", empty])
+            told = _lines(done.stderr.decode(errors="replace"))
+            lacking = next((found for line in told if (found := lacking_of.header(line))), None)
+            if lacking is None or not _emptied(empty, lacking[1]):
+                break
+            place, name = lacking
+            refused.append(lacking_of.of_header(place, name, _is_standard(name)))
+    if done.returncode or refused:
+        raise Unported(_explained(told, refused, "".join(map(_text, files))))
+    # All files are one text here, so a name in a namespace without one is a name like others.
+    return Unit(json.loads(done.stdout.replace(b"(anonymous namespace)::", b"")))
+
+
+def _readable(file: str) -> None:
+    if '"' in file or "\n" in file:
+        raise Unported([f"{file}: a name with a quotation mark can't be included; give the file another"], True)
+    if os.path.isdir(file):
+        raise Unported([f"{file}: is a folder, and no file of C++"], True)
+    if not os.path.isfile(file):
+        raise Unported([f"{file}: no such file"], True)
+    if not os.access(file, os.R_OK):
+        raise Unported([f"{file}: can't be read"], True)
+
+
+def _text(file: str) -> str:
+    with open(file, encoding="utf-8", errors="replace") as text:
+        return text.read()
+
+
+def _asked(files: list[str], words: list[str]) -> "subprocess.CompletedProcess[bytes]":
     text = "".join(f'#include "{file}"\n' for file in files)
-    command = [compiler(), STANDARD, "-nostdinc", "-nostdinc++", "-isystem", INCLUDE, *words]
-    command += [
-        "-fsyntax-only",
-        "-w",
-        "-ferror-limit=0",
-        "-fno-caret-diagnostics",
-        "-Xclang",
-        "-ast-dump=json",
-        "-x",
-        "c++",
-        "-",
-    ]
-    done = subprocess.run(command, input=text.encode(), capture_output=True, check=False)
-    if done.returncode:
-        raise Unported(_explained(done.stderr.decode(errors="replace")))
-    return Unit(json.loads(done.stdout))
+    command = [compiler(), STANDARD, "-nostdinc", "-nostdinc++", "-isystem", INCLUDE, *words, *ASKED]
+    return subprocess.run(command, input=text.encode(), capture_output=True, check=False)
 
 
-def _of_library(line: str) -> str:
-    """What clang says of a name that the stub headers lack, as a refusal."""
-    found = re.match(
-        r"^(\S+): error: (?:no \w+ named|no template named|no type named) '(\w+)' in namespace 'std'", line
-    )
-    if found is None:
-        return line
-    return f"{found.group(1)}: std::{found.group(2)}, which isn't known; write a function or class of your own"
+def _emptied(folder: str, name: str) -> bool:
+    """Puts an empty header of the name there, so that what is behind it is looked at too; whether that could be."""
+    path = os.path.normpath(os.path.join(folder, name))
+    if not path.startswith(folder + os.sep) or os.path.exists(path):
+        return False
+    os.makedirs(os.path.dirname(path), exist_ok=True)
+    with open(path, "w", encoding="utf-8"):
+        pass
+    return True
 
 
-def _explained(told: str) -> list[str]:
-    """Clang's lines of errors; of a header or a name that only the real library has it is said what is known."""
+def _is_standard(name: str) -> bool:
+    """Whether the real compiler's library has the header: g++ is asked, where it is there."""
+    if shutil.which("g++") is None:
+        return False
+    command = ["g++", STANDARD, "-E", "-x", "c++", "-"]
+    done = subprocess.run(command, input=f"#include <{name}>\n".encode(), capture_output=True, check=False)
+    return done.returncode == 0
+
+
+def _lines(told: str) -> list[str]:
+    """What clang says of the user's files."""
     unsaid = ("generated.", ": note: ", "In file included")
     lines = [line for line in told.splitlines() if line and not any(word in line for word in unsaid)]
-    lines = [_of_library(line[2:] if line.startswith("./") else line) for line in lines]
-    if any("file not found" in line or ": std::" in line for line in lines):
-        known = sorted(name for name in os.listdir(INCLUDE) if not name.endswith(".h"))
-        lines.append(f"of the standard library these headers are known, in part: {', '.join(known)}")
-    return lines or ["clang refused the program"]
+    return [line[2:] if line.startswith("./") else line for line in lines]
+
+
+def _explained(told: list[str], refused: list[str], text: str) -> list[str]:
+    """The refusals of what the stub headers lack; where there are none, clang's own lines."""
+    found = [
+        lacking_of.refusal(line, lambda name: bool(re.search(rf"\b[\w>&*\]]+[ *&]+{name}\b", text))) for line in told
+    ]
+    lacking = [line for line in found if line is not None]
+    if not refused and not lacking:
+        return told or ["clang refused the program"]
+    known = sorted(name for name in os.listdir(INCLUDE) if not name.endswith(".h"))
+    headers = [f"of the standard library these headers are known, in part: {', '.join(known)}"]
+    return list(dict.fromkeys(refused or lacking)) + headers * any(": <" in line for line in refused)

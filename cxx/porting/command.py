@@ -3,6 +3,7 @@ error."""
 
 import argparse
 import os
+import re
 import sys
 import threading
 from typing import Callable
@@ -38,7 +39,9 @@ def parser(name: str, what: str) -> argparse.ArgumentParser:
     made.add_argument(
         "-I", action="append", default=[], metavar="DIR", dest="folders", help="looks for headers in DIR too"
     )
-    made.add_argument("-D", action="append", default=[], metavar="NAME[=VALUE]", dest="macros", help="defines a macro")
+    made.add_argument(
+        "-D", action="append", default=[], type=_macro, metavar="NAME[=VALUE]", dest="macros", help="defines a macro"
+    )
     made.add_argument(
         "--plain", action="store_true", help="ports as it stands, without looking for a shape that commutes"
     )
@@ -46,6 +49,23 @@ def parser(name: str, what: str) -> argparse.ArgumentParser:
         "--no-check", action="store_true", help="doesn't compare the run of the port with that of the program"
     )
     return made
+
+
+def _macro(word: str) -> str:
+    if not re.match(r"[A-Za-z_]\w*(\([\w, ]*\))?(=|$)", word):
+        raise argparse.ArgumentTypeError(f"{word!r} doesn't begin with the name of a macro")
+    return word
+
+
+def files_of(made: argparse.ArgumentParser, given: argparse.Namespace) -> None:
+    """Ends where a file is named twice, or the text would be written over one of them."""
+    names = [os.path.realpath(file) for file in given.files]
+    for file, name in zip(given.files, names):
+        if names.count(name) > 1:
+            made.error(f"{file} is named twice")
+    out = getattr(given, "out", None)
+    if out is not None and {os.path.realpath(out), os.path.realpath(out + ".map")} & set(names):
+        made.error(f"-o {out} would be written over a file of the program")
 
 
 def words_of(given: argparse.Namespace) -> list[str]:
@@ -96,6 +116,10 @@ def _status(action: Callable[[], None]) -> int:
         return _failed(
             ("not ported: " if differs.checked else "") + differs.said, DIFFERS if differs.checked else UNCHECKED
         )
+    except BrokenPipeError:
+        # Whoever reads the lines has enough of them.
+        os.dup2(os.open(os.devnull, os.O_WRONLY), sys.stdout.fileno())
+        return DONE
     except OSError as error:
         return _failed(f"{error.filename}: {error.strerror}", FAULT)
     except RecursionError:
@@ -118,6 +142,7 @@ def port() -> int:
         "-o", metavar="TEXT", dest="out", help="where the text goes, and TEXT.map beside it; else FILE.ported.cc"
     )
     given = made.parse_args()
+    files_of(made, given)
 
     def action() -> None:
         result = ported(given)
@@ -139,11 +164,13 @@ def tell() -> int:
         "--pairs", action="store_true", help="tells each pair of functions whose order was looked at, too"
     )
     given = made.parse_args()
+    files_of(made, given)
 
     def action() -> None:
         result = ported(given)
         lines = told.pair_lines(result) if given.pairs else []
         for line in lines + told.report(result):
             print(line)
+        sys.stdout.flush()
 
     return guarded(action)

@@ -55,6 +55,11 @@ def is_place(node: t.Expr) -> bool:
     return False
 
 
+def is_to_object(node: t.Expr) -> bool:
+    """Whether the value is a pointer to an object, and no array."""
+    return isinstance(node.type, Pointer) and isinstance(node.type.to, Object)
+
+
 class _Finder:
     def __init__(self) -> None:
         self.found: set[t.Variable] = set()
@@ -85,7 +90,10 @@ class _Finder:
     def _compared(self, node: t.Binary) -> None:
         strings = node.left.type == STRING and node.right.type == STRING
         ordered = node.operator in ORDERS and not (strings and node.operator in COMPARED)
-        placed = any(is_place(side) or self.walks(side) for side in (node.left, node.right))
+        sides = (node.left, node.right)
+        placed = any(is_place(side) or self.walks(side) for side in sides)
+        if node.operator in COMPARED and not placed and all(is_to_object(side) for side in sides):
+            return
         if ordered or placed and node.operator in ("==", "!="):
             self._take(node.left)
             self._take(node.right)

@@ -7,10 +7,14 @@ from .finishing import finish
 from .form import Method, Program
 from .lowering.program import Lowering
 from .reading import read_program
+from .reading.declarations import unknown_in
+from .refusals import FAULTS, NOT_KNOWN, Refused, Unported
 from .sites import Sites
 from .places import Place
 from .text import Text
+from .tree import Member, Variable
 from .tree import Program as Tree
+from .types import INT
 
 
 @dataclass
@@ -38,7 +42,10 @@ class Porter:
 
     def tree(self) -> Tree:
         if self._tree is None:
-            self._tree = read_program(self._unit)
+            self._tree, refusals = read_program(self._unit)
+            if refusals.found:
+                refusals.found += further(self._tree)
+                refusals.raise_if_any()
         return self._tree
 
     def lowered(self, capacities: dict[str, int]) -> tuple[Program, Sites]:
@@ -51,3 +58,22 @@ class Porter:
         program, sites = self.lowered(capacities)
         stops = finish(program)
         return Ported(self.files, program, Text(program), sites, stops)
+
+
+def further(tree: Tree) -> list[Refused]:
+    """What the lowering refuses of a program of which reading refused a part: all of a program is told at once. What
+    may follow from the statements that are missing is left out."""
+    places: list[Member | Variable] = [*tree.globals, *(one for record in tree.records for one in record.members)]
+    for one in places:
+        if unknown_in(one.type) is not None:
+            one.type = INT
+    try:
+        lowering = Lowering(tree, {})
+    except (Refused, Unported, *FAULTS):
+        return []
+    try:
+        lowering.lowered()
+    except (Refused, Unported, *FAULTS):
+        pass
+    found = lowering.tables.refusals.found
+    return [one for one in found if one.place.line and not one.follows and one.what != NOT_KNOWN]

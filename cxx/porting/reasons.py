@@ -74,6 +74,28 @@ class Namer:
         where = f" ({short(slot.place)})" if slot.place.line else ""
         return f"{slot.origin or slot.name}{where}"
 
+    def _asked(self, op: str, at: form.Statement | None) -> Reason | None:
+        """Which function is asked for what the same calls change: where that are members of the object itself, they can
+        be passed."""
+        method = self.methods.get(op)
+        if method is None or at is None:
+            return None
+        exprs = form.own_expressions(at)
+        changed = {
+            one.target.name
+            for one in form.statements(method.body)
+            if isinstance(one, form.Put) and isinstance(one.target, (form.Field, form.Item))
+        }
+        for call in (part for expr in exprs for part in form.within(expr)):
+            if not isinstance(call, form.Apply) or not isinstance(call.receiver, form.This):
+                continue
+            read = [name for name in _own_reads(call.method, set()) if name in changed]
+            if read:
+                names = " and ".join(read)
+                said = f"{self.operation(op)} asks {call.method.origin} for {names}, which it changes itself"
+                return Reason(said, f"pass {names} to it as arguments, or write what it computes here")
+        return None
+
     def weight(self, line: str) -> int:
         """How much a reason says, the least first: what no order can mend, what is the user's own, the rest."""
         words = line.split()
@@ -95,6 +117,10 @@ class Namer:
         match words:
             case ["NotSeparable", op, at, why]:
                 said, mended = CAUSES[why]
+                if why == "FunctionRead":
+                    asked = self._asked(op, self.ported.text.statements[int(at) - 1])
+                    if asked is not None:
+                        return Reason(f"{asked.said} ({short(self.place(int(at)))})", asked.mended)
                 return Reason(
                     f"{said.format(op=self.operation(op), own='its own')} ({short(self.place(int(at)))})", mended
                 )
@@ -108,7 +134,8 @@ class Namer:
                 )
             case ["Large"]:
                 return Reason(
-                    f"what {one} computes is too large to be compared", "compute parts of it in const functions"
+                    f"what {one} computes is too large to be compared",
+                    "compute parts of it in const functions, which get the members that these calls change as arguments",
                 )
             case ["FieldDiffers", name]:
                 said = f"{both} write {self.field(first, name)}, and the order decides what it has at last"
@@ -166,6 +193,21 @@ def unlisted(loop: form.Loop | form.Count) -> Reason:
     )
 
 
+def _own_reads(method: form.Method, seen: set[form.Method]) -> list[str]:
+    """The members of its own object that a function asks for, also by other functions of it."""
+    if method in seen:
+        return []
+    seen.add(method)
+    found: list[str] = []
+    for one in form.expressions(method.body):
+        for part in form.within(one):
+            if isinstance(part, (form.Field, form.Item)) and isinstance(part.object, form.This):
+                found.append(part.name)
+            elif isinstance(part, form.Apply) and isinstance(part.receiver, form.This):
+                found += _own_reads(part.method, seen)
+    return list(dict.fromkeys(found))
+
+
 def _first(
     body: list[form.Statement], wanted: Callable[[form.Statement], bool], said: str, mended: str
 ) -> Reason | None:
@@ -200,13 +242,36 @@ def _left(loop: form.Count) -> Reason | None:
     return None
 
 
+def _kept(put: form.Put, name: str, inside: list[form.Statement]) -> str:
+    """What mends a local that iterations pass on: by what they make of it."""
+    target, value = put.target, put.value
+    if isinstance(target.type, form.Pointer):
+        return f"let an object keep {name} as a member, and let each iteration call a member function of it"
+    parts = list(form.within(value))
+    if (
+        put.operator in ("+", "-")
+        or isinstance(value, form.Binary)
+        and value.operator == "+"
+        and target in (value.left, value.right)
+    ):
+        return "let each add to a member of an object"
+    compared = any(
+        isinstance(one, form.If)
+        and put in list(form.statements(one.yes))
+        and target in list(form.within(one.condition))
+        for one in inside
+    )
+    if compared or any(isinstance(one, form.Binary) and one.operator in ("max", "min") for one in parts):
+        return "let an object keep the greatest or the least as a member, which each iteration puts by std::max or std::min"
+    return "let each leave what it finds in a member, where that may be a sum, the greatest or the least"
+
+
 def _shared(inside: list[form.Statement], declared: set[form.Local]) -> Reason | None:
     """A local that the turns hand on from one to the next."""
     for one in inside:
         if isinstance(one, form.Put) and isinstance(one.target, form.Local) and one.target not in declared:
             name = one.target.name.rstrip("_")
             return Reason(
-                f"its iterations pass {name} on from one to the next ({short(one.place)})",
-                "let each add to a member of an object",
+                f"its iterations pass {name} on from one to the next ({short(one.place)})", _kept(one, name, inside)
             )
     return None

@@ -9,6 +9,9 @@ from .places import Place
 FAULTS = (KeyError, AttributeError, AssertionError, IndexError, TypeError, ValueError, StopIteration)
 
 
+NOT_KNOWN = "a construct that isn't known"
+
+
 class Refused(Exception):
     """One construct that isn't ported: where, what, and what to write instead."""
 

@@ -34,7 +34,9 @@ def report(ported: Ported) -> list[str]:
         return ["no loop and no recursion"]
     parallel = sum(one.reason is None for one in verdicts)
     done = sorted({f"{short(place)}: {words}" for place, words in ported.rewritten})
-    return [str(one) for one in verdicts] + done + [f"{parallel} of {len(verdicts)} loops and recursions run in parallel"]
+    return (
+        [str(one) for one in verdicts] + done + [f"{parallel} of {len(verdicts)} loops and recursions run in parallel"]
+    )
 
 
 def pair_lines(ported: Ported) -> list[str]:
@@ -118,18 +120,22 @@ def recursions(ported: Ported, blocks: Blocks) -> list[Verdict]:
             found.append(Verdict(ported.loops[method], "loop", blocks.reason(f"op {method!r}", namer)))
             continue
         if _calls_itself(method, called):
-            reason = blocks.reason(f"op {method!r}", namer) if not method.pure else _pure()
+            reason = blocks.reason(f"op {method!r}", namer) if not method.pure else _pure(method)
             found.append(Verdict(method.place, f"recursion {method.origin}", reason))
         elif marked:
             found.append(Verdict(method.place, f"what {method.origin} calls", None))
     return found
 
 
-def _pure() -> Reason:
-    return Reason(
-        "it gives a value back to each caller, who waits for it",
-        "pass an object along to which each call adds, or which keeps the greatest",
-    )
+def _pure(method: form.Method) -> Reason:
+    parts = [part for one in form.expressions(method.body) for part in form.within(one)]
+    chosen = any(isinstance(part, form.Binary) and part.operator in ("max", "min") for part in parts)
+    mended = "pass an object along to which each call adds"
+    if chosen:
+        mended = (
+            "pass the value so far along as an argument, and an object that keeps the greatest or the least of them"
+        )
+    return Reason("it gives a value back to each caller, who waits for it", mended)
 
 
 def _calls_itself(method: form.Method, called: dict[form.Method, set[form.Method]]) -> bool:

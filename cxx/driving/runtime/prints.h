@@ -43,9 +43,10 @@ static void show_at_end();
   end_workers();
   out.flush();
   if (std::getenv("COMMUTE_TIMES") != nullptr) {
-    unsigned long given = 0;
-    for (int i = 0; i < workers; i++) given += all[i].given;
-    std::fprintf(stderr, "seconds %.6f regions %lu tasks %lu\n", seconds(begun, now()), regions_shared, given);
+    std::fprintf(stderr, "seconds %.6f regions %lu tasks %lu\n", seconds(begun, now()), regions_shared, all_given());
+#ifdef FORCED
+    std::fprintf(stderr, "forced places %d shared %d\n", Forcing::places, Forcing::shared);
+#endif
   }
   show_at_end();
   _exit(int(code & 255));

@@ -191,7 +191,8 @@ def given(body: Body, node: t.Call, out: Out) -> tuple[Kind | None, form.Target]
     method = method_of(body, node, kinds)
     told = body.tables.given.get(method)
     if told is None or method.result is None:
-        raise Refused(node.place, f"{node.function.name}, which gives places of several kinds", "write a setter")
+        what = f"{node.function.name}, which gives places of several kinds"
+        raise Refused(node.place, what, "write a setter", follows=True)
     receiver = body.kept(receiver, out, node.place)
     result = body.temporary(method.result)
     out.append(form.Do(method, receiver, arguments, result, node.place))

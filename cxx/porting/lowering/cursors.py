@@ -72,6 +72,10 @@ def spot(body: Body, node: t.Expr, out: Out) -> Spot:
         return _absolute(body, places.container(body, node, out), form.Number(0))
     if isinstance(node.type, Pointer) and not isinstance(node.type.to, Object) and not isinstance(node, t.Null):
         return _absolute(body, places.container(body, node, out), form.Number(0))
+    if isinstance(node, t.New) and node.length is not None:
+        raise Refused(node.place, *values.NEW_OBJECTS)
+    if isinstance(node, (t.New, t.Null)) or isinstance(node.type, Pointer) and isinstance(node.type.to, Object):
+        raise Refused(node.place, *values.ORDER)
     raise Refused(node.place, "a pointer that walks over items is given what isn't the place of one", WALKING[1])
 
 

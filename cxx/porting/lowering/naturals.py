@@ -1,71 +1,138 @@
-"""Not proved (README.md). How many bits the unsigned numbers of a program need.
+"""Not proved (README.md). How many bits the numbers of a program need that are never below zero.
 
 Numbers without sign of 64 bits are held by their bits, so that a comparison or quotient of them needs care where one
-may be 2^63 or more. Most never are: sizes, indices, remainders. This is found for the whole program: each variable
-starts at no bits and takes what is assigned to it, until nothing grows. What is added to a variable over and over
-again stays below 2^62, since a run has at most 1,000,000,000 steps and each adds less than 2^32.
+may be 2^63 or more; and a shift to the right of a number with sign is a quotient where that isn't below zero. Most
+numbers never are either: sizes, indices, remainders. This is found for the whole program: each variable starts at no
+bits and takes what is assigned to it, until nothing grows. What is added to a variable over and over again stays below
+2^62, since a run has at most 1,000,000,000 steps and each adds less than 2^32.
 """
 
-from .. import tree as t
-from ..effects import is_lending, lowered_parameters, overriders
-from ..types import BOOL, Int, Object, Reference, bare
+from typing import Callable, Iterator, TypeGuard, Union
 
-Known = dict[t.Variable | t.Member | t.Function, int]
+from .. import tree as t
+from ..effects import is_lending, is_lending_type, lowered_parameters, overriders
+from ..types import BOOL, Int, Object, Reference, Type, bare
+
+Key = Union[t.Variable, t.Member, t.Function]
+Known = dict[Key, int]
+# So many bits say nothing: a number with sign may be below zero, one without may have all of them.
+ALL = 64
 COUNTING = 62
+# A vector has fewer items than this many bits count.
+SIZE = 20
 # What still grows then needs all bits.
 ROUNDS = 10
 
 
+def bits_of(node: t.Expr, known: Callable[[Key], int]) -> int:
+    """So many bits hold the value, which isn't below zero; `ALL` where that isn't sure. `known` has the bits of
+    variables, members and results."""
+    width = _width(node.type)
+    match node:
+        case t.Number():
+            return node.value.bit_length() if node.value >= 0 else width
+        case t.Convert():
+            return _converted(bits_of(node.operand, known), node.type)
+        case t.VectorCall(method="size"):
+            return SIZE
+        case t.Name():
+            return min(known(node.variable), width)
+        case t.Dot():
+            return min(known(node.member), width)
+        case t.Call():
+            called = overriders(node.function) if node.virtual else [node.function]
+            return min(max((known(one) for one in called), default=ALL), width)
+        case t.Conditional():
+            return min(max(bits_of(node.yes, known), bits_of(node.no, known)), width)
+        case t.Built(name="abs"):
+            return ALL - 1
+        case t.Built(name="max" | "min"):
+            return min(max(bits_of(one, known) for one in node.arguments), width)
+        case t.Binary():
+            return min(_of_binary(node, known), width)
+    return width
+
+
+def _width(type_: Type) -> int:
+    """The bits of a type's greatest value, where it has none below zero."""
+    type_ = bare(type_)
+    if type_ == BOOL:
+        return 1
+    return type_.width if isinstance(type_, Int) and not type_.signed else ALL
+
+
+def _converted(bits: int, to: Type) -> int:
+    """The bits of a value as one of another type: with sign, its highest bit would be below zero."""
+    if isinstance(to, Int) and to.signed:
+        return bits if bits < to.width else ALL
+    return min(bits, _width(to))
+
+
+def _of_binary(node: t.Binary, known: Callable[[Key], int]) -> int:
+    left, right = bits_of(node.left, known), bits_of(node.right, known)
+    below = isinstance(node.type, Int) and node.type.signed
+    constant = node.right.value if isinstance(node.right, t.Number) else None
+    match node.operator:
+        case "+":
+            return max(left, right) + 1
+        case "*":
+            return left + right
+        case "&":
+            return min(left, right)
+        case "|" | "^":
+            return max(left, right)
+        case "/":
+            return ALL if below and right == ALL else left
+        case "%":
+            return ALL if below and left == ALL else min(left, right)
+        case "<<":
+            return left + constant if constant is not None and constant >= 0 else ALL
+        case ">>":
+            return left - min(left, constant or 0) if left < ALL or not below else ALL
+        case ",":
+            return right
+    return 1 if node.type == BOOL else ALL
+
+
 def known_bits(program: t.Program) -> Known:
-    """The bits of each unsigned variable, member and result; what isn't here needs all."""
+    """The bits of each variable, member and result; what isn't here needs all."""
     finder = _Finder(program)
-    for round_ in range(8 * ROUNDS):
-        before = dict(finder.bits)
-        if not finder.round():
-            break
-        grown = {key for key, bits in finder.bits.items() if before.get(key) != bits}
-        if round_ == ROUNDS:
-            finder.lost |= grown
-    return {key: bits for key, bits in finder.bits.items() if key not in finder.lost}
+    rounds, before = 0, dict(finder.bits)
+    while finder.round():
+        if rounds >= ROUNDS:
+            finder.bits.update({key: ALL for key, bits in finder.bits.items() if before.get(key) != bits})
+        rounds, before = rounds + 1, dict(finder.bits)
+    return {key: bits for key, bits in finder.bits.items() if bits < ALL}
 
 
 class _Finder:
     def __init__(self, program: t.Program) -> None:
         self.bits: Known = {}
-        self.lost: set[t.Variable | t.Member | t.Function] = set()
-        self._nodes: list[tuple[t.Function | None, t.Tree]] = []
+        nodes: list[tuple[t.Function | None, t.Tree]] = []
         for function in program.functions:
-            self._nodes += [(function, node) for node in t.bodies(function)]
+            nodes += [(function, node) for node in t.bodies(function)]
             for initializer in function.initializers:
                 if initializer.member is not None:
-                    self._nodes.append((None, _Initial(initializer.member, initializer.value)))
-        for variable in program.globals:
-            if variable.initial is not None:
-                self._nodes.append((None, _Initial(variable, variable.initial)))
-        for record in program.records:
-            for member in record.members:
-                if member.initial is not None:
-                    self._nodes.append((None, _Initial(member, member.initial)))
-        self._nodes = [(function, node) for function, node in self._nodes if isinstance(node, _ASSIGNING)]
+                    nodes.append((None, _Initial(initializer.member, initializer.value)))
+        firsts: list[t.Variable | t.Member] = [*program.globals]
+        firsts += [member for record in program.records for member in record.members]
+        nodes += [(None, _Initial(one, one.initial)) for one in firsts if one.initial is not None]
+        self._nodes = [(function, node) for function, node in nodes if isinstance(node, _ASSIGNING)]
 
     def round(self) -> bool:
         """Looks at all assignments once; whether anything grew."""
-        before = dict(self.bits), len(self.lost)
+        before = dict(self.bits)
         for function, node in self._nodes:
             self._look(function, node)
-        return before != (self.bits, len(self.lost))
+        return before != self.bits
 
     def _look(self, function: t.Function | None, node: t.Tree) -> None:
         match node:
             case _Initial():
-                self._takes(node.key, node.value)
+                self._bound(node.key, node.value)
             case t.Declare():
                 if node.variable.initial is not None:
-                    if isinstance(node.variable.type, Reference) and not node.variable.type.constant:
-                        self._lose(node.variable.initial)
-                        self.lost.add(node.variable)
-                    else:
-                        self._takes(node.variable, node.variable.initial)
+                    self._bound(node.variable, node.variable.initial)
             case t.Assign():
                 self._assigned(node)
             case t.Swap():
@@ -76,16 +143,15 @@ class _Finder:
             case t.Aggregate():
                 if isinstance(node.type, Object):
                     for member, part in zip(node.type.record.members, node.parts):
-                        if part is not None and is_lending(member):
-                            self._lose(part)
-                            self.lost.add(member)
-                        elif part is not None:
-                            self._takes(member, part)
+                        if part is not None:
+                            self._bound(member, part)
             case t.Return():
                 if function is not None and node.value is not None:
-                    self._takes(function, node.value)
+                    self._grow(function, self.of(node.value))
+                    if is_lending_type(function.result):
+                        self._lose(node.value)
             case t.Each():
-                self.lost.add(node.variable)
+                self._grow(node.variable, ALL)
 
     def _called(self, node: t.Call | t.Construct) -> None:
         if node.function is None:
@@ -93,86 +159,41 @@ class _Finder:
         functions = overriders(node.function) if isinstance(node, t.Call) and node.virtual else [node.function]
         for function in functions:
             for parameter, argument in zip(lowered_parameters(function), node.arguments):
-                if is_lending(parameter):
-                    self._lose(argument)
-                    self.lost.add(parameter)
-                else:
-                    self._takes(parameter, argument)
+                self._bound(parameter, argument)
+
+    def _bound(self, key: t.Variable | t.Member, value: t.Expr) -> None:
+        """What takes a value, or is another name of a place, through which that may be changed."""
+        if isinstance(key.type, Reference) and not key.type.constant or is_lending(key):
+            self._lose(value)
+            self._grow(key, ALL)
+        else:
+            self._grow(key, self.of(t.Convert(bare(key.type), value.place, value)))
 
     def _assigned(self, node: t.Assign) -> None:
-        key = _key(node.target)
-        if key is None:
-            return
-        if not node.operator:
-            value = node.value
-            if isinstance(value, t.Binary) and value.operator == "+" and _key(value.left) is key:
-                self._grow(key, max(COUNTING, self.bits.get(key, 0)) if self.of(value.right) <= 32 else 64)
-                return
-            self._takes(key, value)
-        elif node.operator == "+" and self.of(node.value) <= 32:
-            self._grow(key, max(COUNTING, self.bits.get(key, 0)))
-        elif node.operator in ("&", "%", "/", ">>"):
-            pass
-        elif node.operator in ("|", "^"):
-            self._grow(key, self.of(node.value))
-        else:
-            self.lost.add(key)
+        keys = list(_keys(node.target))
+        type_, value = bare(node.target.type), node.value
+        if node.operator:
+            old = t.Convert(node.within, node.place, node.target)
+            value = t.Binary(node.within, node.place, node.operator, old, value)
+        for key in keys:
+            bits = self.of(t.Convert(type_, node.place, value))
+            if _is_sum_of(value, key) and value.type == type_ and self.of(value.right) <= 32:
+                bits = max(COUNTING, self._of_key(key))
+            self._grow(key, bits)
 
-    def _takes(self, key: t.Variable | t.Member | t.Function, value: t.Expr) -> None:
-        self._grow(key, self.of(value))
-
-    def _grow(self, key: t.Variable | t.Member | t.Function, bits: int) -> None:
-        if bits >= 64:
-            self.lost.add(key)
-        self.bits[key] = min(64, max(self.bits.get(key, 0), bits))
+    def _grow(self, key: Key, bits: int) -> None:
+        self.bits[key] = min(ALL, max(self.bits.get(key, 0), bits))
 
     def _lose(self, node: t.Expr) -> None:
-        key = _key(node)
-        if key is not None:
-            self.lost.add(key)
+        for key in _keys(node):
+            self._grow(key, ALL)
+
+    def _of_key(self, key: Key) -> int:
+        return self.bits.get(key, 0)
 
     def of(self, node: t.Expr) -> int:
         """The bits of a value, by what is known so far."""
-        type_ = bare(node.type)
-        width = type_.width if isinstance(type_, Int) and not type_.signed else 1 if type_ == BOOL else 64
-        match node:
-            case t.Number():
-                return node.value.bit_length() if node.value >= 0 else 64
-            case t.Convert():
-                inside = self.of(node.operand)
-                return inside if inside < 64 else width
-            case t.VectorCall(method="size"):
-                return 20
-            case t.Name() | t.Dot() | t.Call():
-                key = _key(node)
-                if key is None or key in self.lost:
-                    return width
-                signed = isinstance(type_, Int) and type_.signed
-                return 64 if signed else min(width, self.bits.get(key, 0))
-            case t.Conditional():
-                return max(self.of(node.yes), self.of(node.no))
-            case t.Binary():
-                return min(width, self._binary(node))
-        return width
-
-    def _binary(self, node: t.Binary) -> int:
-        left, right = self.of(node.left), self.of(node.right)
-        match node.operator:
-            case "+":
-                return max(left, right) + 1
-            case "*":
-                return left + right
-            case "&" | "%":
-                return min(left, right)
-            case "|" | "^":
-                return max(left, right)
-            case "/":
-                return left
-            case ">>":
-                return max(0, left - node.right.value) if isinstance(node.right, t.Number) and left < 64 else left
-            case ",":
-                return right
-        return 1 if node.type == BOOL else 64
+        return bits_of(node, self._of_key)
 
 
 class _Initial(t.Step):
@@ -186,12 +207,29 @@ class _Initial(t.Step):
 _ASSIGNING = (_Initial, t.Declare, t.Assign, t.Swap, t.Call, t.Construct, t.Aggregate, t.Return, t.Each)
 
 
-def _key(node: t.Expr) -> t.Variable | t.Member | t.Function | None:
+def _keys(node: t.Expr) -> Iterator[Key]:
+    """What the place may be; what functions give as places, and references are bound to, needs all bits already."""
     match node:
         case t.Name():
-            return node.variable
+            yield node.variable
         case t.Dot():
-            return node.member
-        case t.Call():
-            return node.function if not node.virtual or len(overriders(node.function)) == 1 else None
-    return None
+            yield node.member
+        case t.Conditional():
+            yield from _keys(node.yes)
+            yield from _keys(node.no)
+        case t.Assign():
+            yield from _keys(node.target)
+        case t.Binary(operator=","):
+            yield from _keys(node.right)
+        case t.Convert():
+            yield from _keys(node.operand)
+        case t.Deref(pointer=t.AddressOf(operand=operand)):
+            yield from _keys(operand)
+
+
+def _is_sum_of(value: t.Expr, key: Key) -> TypeGuard[t.Binary]:
+    """Whether the value is what the key has, and something added."""
+    if not (isinstance(value, t.Binary) and value.operator == "+"):
+        return False
+    left = value.left.operand if isinstance(value.left, t.Convert) and value.left.type == value.type else value.left
+    return list(_keys(left)) == [key]

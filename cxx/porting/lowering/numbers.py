@@ -11,6 +11,7 @@ from .. import tree as t
 from ..folding import wrapped
 from ..types import BOOL, LONG, Int, Type
 from .context import Body
+from .naturals import ALL, bits_of
 
 LEAST = -(1 << 63)
 SIMPLE = ("+", "-", "*", "&", "|", "^")
@@ -78,66 +79,9 @@ def converted(value: form.Expr, of: Type, to: Type) -> form.Expr:
     return value
 
 
-def bits(body: Body, node: t.Expr) -> int:
-    """So many bits hold the value of an unsigned number, or of one that isn't negative; 64 where nothing is known."""
-    known = body.tables.bits
-    match node:
-        case t.Number():
-            return node.value.bit_length() if node.value >= 0 else 64
-        case t.Truth():
-            return 1
-        case t.Convert():
-            operand = node.operand
-            if operand.type == BOOL:
-                return 1
-            if isinstance(operand.type, Int) and isinstance(node.type, Int):
-                return min(bits(body, operand), node.type.width if not node.type.signed else 64)
-        case t.VectorCall(method="size"):
-            return 20
-        case t.Name():
-            return min(known.get(node.variable, 64), _width(node.type))
-        case t.Dot():
-            return min(known.get(node.member, 64), _width(node.type))
-        case t.Call():
-            return min(known.get(node.function, 64), _width(node.type))
-        case t.Conditional():
-            return max(bits(body, node.yes), bits(body, node.no))
-        case t.Binary():
-            return min(_bits_of_binary(body, node), _width(node.type))
-    return _width(node.type)
-
-
-def _width(type_: Type) -> int:
-    if type_ == BOOL:
-        return 1
-    return type_.width if isinstance(type_, Int) and not type_.signed else 64
-
-
-def _bits_of_binary(body: Body, node: t.Binary) -> int:
-    left, right = bits(body, node.left), bits(body, node.right)
-    match node.operator:
-        case "+":
-            return max(left, right) + 1
-        case "*":
-            return left + right
-        case "&":
-            return min(left, right)
-        case "|" | "^":
-            return max(left, right)
-        case "/":
-            return left
-        case "%":
-            return min(left, right)
-        case ">>":
-            return max(0, left - node.right.value) if isinstance(node.right, t.Number) and left < 64 else left
-        case ",":
-            return right
-    return 1 if node.type == BOOL else 64
-
-
 def is_natural(body: Body, node: t.Expr) -> bool:
     """Whether the value is surely held as itself: from 0 to below 2^63."""
-    return bits(body, node) < 64
+    return bits_of(node, lambda key: body.tables.bits.get(key, ALL)) < ALL
 
 
 def is_unsigned_long(type_: Type) -> bool:

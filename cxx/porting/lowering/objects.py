@@ -65,7 +65,7 @@ def _new(body: Body, node: t.New, out: Out) -> form.Expr:
         make(body, local, to, node.initial, out, place)
         return local
     if isinstance(to, Object):
-        raise Refused(place, "a new array of objects", "write a vector, or an array of pointers")
+        raise Refused(place, *values.NEW_OBJECTS)
     length = values.value(body, node.length, out) if node.length is not None else form.Number(1)
     out.append(form.Make(local, place))
     held = Container(local, "at", None, to)

@@ -49,8 +49,8 @@ def _variable(body: Body, node: t.Name) -> form.Target:
         return _opened(made, variable.lent, body.shapes.of(variable.type))
     bound = body.bindings.get(variable)
     if isinstance(bound, (Container, Cursor)) or bound is None:
-        raise Refused(node.place, f"{variable.name} in this place", "write it another way")
-    boxed = variable.lent or is_lending(variable) and isinstance(bound, form.Local)
+        raise Refused(node.place, f"{variable.name} in this place", "write it another way", bound is None)
+    boxed = variable.lent or is_lending(variable) and isinstance(bound, form.Local) and body.shapes.is_box(bound.type)
     return _opened(bound, boxed and is_scalar(bare(variable.type)), body.shapes.of(variable.type))
 
 
@@ -201,9 +201,8 @@ def box_of(body: Body, node: t.Expr, out: Out) -> form.Expr | None:
     if not isinstance(node, (t.Name, t.Dot)):
         return None
     target = place(body, node, out)
-    if isinstance(target, form.Field) and target.name == "value" and isinstance(target.object.type, form.Pointer):
-        if target.object.type.cls.startswith("Box_"):
-            return target.object
+    if isinstance(target, form.Field) and body.shapes.is_box(target.object.type):
+        return target.object
     return None
 
 

@@ -12,7 +12,7 @@ from .. import form
 from .. import tree as t
 from ..places import NOWHERE, Place
 from ..refusals import Refused
-from ..types import BOOL, NULL, STRING, Array, Int, Object, Pointer, Reference, Type, Vector, bare, is_scalar
+from ..types import BOOL, NULL, STRING, VOID, Array, Int, Object, Pointer, Reference, Type, Vector, bare, is_scalar
 from ..words import unique
 
 FIRST_CAPACITY = 8
@@ -26,6 +26,9 @@ class Shapes:
     def __init__(self, program: t.Program, capacities: dict[str, int]) -> None:
         self.capacities = capacities
         self.classes: dict[str, form.Class] = {}
+        # The classes of the port's own, by what they hold: their names are free, whatever the user's are.
+        self._added: dict[str, form.Class] = {}
+        self._boxes: set[str] = set()
         self._used: set[str] = {"Program"}
         self.names: dict[form.Class, set[str]] = {}
         self._records: dict[t.Record, form.Class] = {}
@@ -117,6 +120,8 @@ class Shapes:
             return form.Pointer(self.vector(type_.of).name)
         if type_ == NULL:
             return form.Pointer("Program")
+        if type_ == VOID:
+            raise Refused(NOWHERE, "a pointer to void", "let the pointer have the type of its object")
         raise Refused(NOWHERE, f"the type {type_}", "write it another way")
 
     def parameter(self, type_: Type) -> form.Type:
@@ -142,10 +147,10 @@ class Shapes:
         """The class of arrays that pointers to such items point to."""
         of = self.of(item)
         name = "Array_" + self._word(of)
-        if name not in self.classes:
-            cls = self._class(name, "an array", NOWHERE)
+        if name not in self._added:
+            self._added[name] = cls = self._class(name, "an array", NOWHERE)
             self._grow(cls, self._slot(cls, "at", of, 1, "the items"))
-        return self.classes[name]
+        return self._added[name]
 
     def need(self, cls: form.Class, length: int) -> None:
         """Arrays of the class have at least so many items."""
@@ -156,25 +161,30 @@ class Shapes:
         """The class of arrays of just this length, which nothing points to but their own name."""
         of, length = self.of(self.item(type_)), self.length(type_)
         name = f"Array_{self._word(of)}_{length}"
-        if name not in self.classes:
-            cls = self._class(name, "an array", NOWHERE)
+        if name not in self._added:
+            self._added[name] = cls = self._class(name, "an array", NOWHERE)
             self._slot(cls, "at", of, length, "the items")
-        return self.classes[name]
+        return self._added[name]
 
     def vector(self, item: Type) -> form.Class:
         of = self.of(item)
         name = "Vector_" + self._word(of)
-        if name not in self.classes:
-            cls = self._class(name, "a vector", NOWHERE)
+        if name not in self._added:
+            self._added[name] = cls = self._class(name, "a vector", NOWHERE)
             self._grow(cls, self._slot(cls, "at", of, 1, "the items"))
             self._slot(cls, "n", form.LONG, origin="the size")
-        return self.classes[name]
+        return self._added[name]
 
     def box(self, type_: Type) -> form.Class:
         """The class of objects that hold one value which references are bound to."""
         of = self.of(type_)
         name = "Box_" + self._word(of)
-        if name not in self.classes:
-            cls = self._class(name, "a variable that references are bound to", NOWHERE)
+        if name not in self._added:
+            self._added[name] = cls = self._class(name, "a variable that references are bound to", NOWHERE)
             self._slot(cls, "value", of, origin="its value")
-        return self.classes[name]
+            self._boxes.add(cls.name)
+        return self._added[name]
+
+    def is_box(self, type_: form.Type) -> bool:
+        """Whether it is a pointer to such an object."""
+        return isinstance(type_, form.Pointer) and type_.cls in self._boxes

@@ -4,7 +4,7 @@ from .. import form
 from .. import tree as t
 from ..effects import is_lending, lowered_parameters
 from ..places import Place
-from ..refusals import FAULTS, Refused
+from ..refusals import FAULTS, NOT_KNOWN, Refused
 from ..sites import EXIT_SITE
 from ..types import VOID, Array, Object, Reference, Vector, bare, is_scalar
 from . import calls, cursors, objects, places, values, vectors
@@ -44,7 +44,7 @@ def block(body: Body, node: t.Block, out: Out) -> None:
                 refused.place = one.place
             body.tables.refusals.add(refused)
         except FAULTS:
-            body.tables.refusals.add(Refused(one.place, "a construct that isn't known", "write it another way"))
+            body.tables.refusals.add(Refused(one.place, NOT_KNOWN, "write it another way"))
 
 
 def inside(body: Body, node: t.Block) -> Out:

@@ -20,6 +20,10 @@ from .numbers import (
 )  # fmt: skip
 
 
+ORDER = ("a pointer to an object in an order or with arithmetic", "compare numbers that the objects have")
+NEW_OBJECTS = ("a new array of objects", "write a vector, or an array of pointers")
+
+
 def value(body: Body, node: t.Expr, out: Out) -> form.Expr:
     """The value; of an object, an array or a vector a pointer to it."""
     type_ = bare(node.type)
@@ -180,7 +184,8 @@ def _binary(body: Body, node: t.Binary, out: Out) -> form.Expr:
         return cursors.compared(body, node, out)
     for side in (node.left, node.right):
         if isinstance(bare(side.type), Pointer) and operator not in ("==", "!="):
-            raise Refused(node.place, "arithmetic on a pointer", "write an array and an index")
+            told = ORDER if operator in COMPARISONS else ("arithmetic on a pointer", "write an array and an index")
+            raise Refused(node.place, *told)
     left, right = several(body, [node.left, node.right], out)
     if operator in COMPARISONS:
         if isinstance(left.type, form.Pointer) or isinstance(right.type, form.Pointer):
@@ -196,7 +201,7 @@ def _binary(body: Body, node: t.Binary, out: Out) -> form.Expr:
 
 def _pointers(node: t.Binary, left: form.Expr, right: form.Expr) -> form.Expr:
     if node.operator not in ("==", "!="):
-        raise Refused(node.place, "an order of pointers", "compare numbers that the objects have")
+        raise Refused(node.place, *ORDER)
     return binary(node.operator, left, right)
 
 

@@ -8,11 +8,12 @@ from typing import Callable
 from .. import tree as t
 from ..clang import Node, Unit, children
 from ..places import Place
-from ..refusals import FAULTS, Refusals, Refused, Unported
+from ..refusals import FAULTS, NOT_KNOWN, Refusals, Refused, Unported
 from ..types import BOOL, STREAM, VOID, Array, Object, Vector, bare
 from .declarations import Declarations, is_known
 from .expressions import ExpressionReader
 from . import library
+from .library import unknown_type
 
 SKIPPED = {
     "NullStmt", "StaticAssertDecl", "UsingDecl", "UsingDirectiveDecl", "CXXRecordDecl", "EnumDecl", "TypedefDecl",
@@ -21,17 +22,21 @@ SKIPPED = {
 REFUSED = {
     "GotoStmt": ("goto", "write a loop or a function"),
     "LabelStmt": ("a label", "write a loop or a function"),
+    "IndirectGotoStmt": ("goto", "write a loop or a function"),
     "CXXTryStmt": ("an exception", "return a value that tells of the fault"),
+    "GCCAsmStmt": ("assembly", "write C++"),
+    "CaseStmt": ("a case within another statement", "let each case stand directly in its switch"),
+    "DefaultStmt": ("a case within another statement", "let each case stand directly in its switch"),
 }
 
 
-def read_program(unit: Unit) -> t.Program:
-    """The program of a unit; all its refusals at once."""
+def read_program(unit: Unit) -> tuple[t.Program, Refusals]:
+    """The program of a unit, without the statements that are refused."""
     try:
-        declared = Declarations(unit)
+        reader = BodyReader(Declarations(unit))
     except Refused as refused:
         raise Unported([str(refused)]) from None
-    return BodyReader(declared).program()
+    return reader.program(), reader.refusals
 
 
 class BodyReader:
@@ -39,7 +44,7 @@ class BodyReader:
 
     def __init__(self, declared: Declarations) -> None:
         self.declared = declared
-        self.refusals = Refusals()
+        self.refusals = declared.refusals
         self._waiting: list[t.Function] = []
         self._reached: set[t.Function] = set()
         self.functions: list[t.Function] = []
@@ -66,7 +71,8 @@ class BodyReader:
     def program(self) -> t.Program:
         main = next((one for one in self.declared.functions.values() if one.name == "main" and one.owner is None), None)
         if main is None or not self.declared.has_body(main):
-            raise Unported(["the program has no main: name all its files"])
+            self.refusals.raise_if_any()
+            raise Unported(["the program has no main; name the file that has it, too"])
         if main.parameters:
             self.refusals.add(
                 Refused(main.place, "main with arguments", "write int main(), with constants: a run has no input")
@@ -79,9 +85,20 @@ class BodyReader:
                 self._initial(member)
         while self._waiting:
             self._function(self._waiting.pop())
-        self.refusals.raise_if_any()
+        self._types()
         variables = [one for one in self.declared.globals if one.constant is None]
         return t.Program(main, self.declared.records, self.functions, variables + self.statics)
+
+    def _types(self) -> None:
+        """Refuses the types that aren't known of what isn't named anywhere, but is there."""
+        members = [one for record in self.declared.records if not record.library for one in record.members]
+        library = [
+            one for one in self.declared.globals if self.declared.unit.is_library(self.declared.variable_nodes[one])
+        ]
+        shared: list[t.Variable | t.Member] = [one for one in self.declared.globals if one not in library]
+        for one in [*members, *shared]:
+            if not is_known(one.type):
+                self.refusals.add(Refused(one.place, *unknown_type(one.type)))
 
     def _reach(self, function: t.Function) -> None:
         if function in self._reached:
@@ -114,15 +131,19 @@ class BodyReader:
         self.expressions.captures = self.declared.captures.get(function, {})
         self.functions.append(function)
         if not self._is_known(function):
+            function.body = t.Block(function.place, [])
             return
         steps: list[t.Statement] = []
+        if not (self.declared.has_body(function) or function.pure_virtual or self.declared.is_compilers(function)):
+            name = f"{function.owner.name}::{function.name}" if function.owner else function.name
+            self.refusals.add(Refused(function.place, f"{name} has no body", "name the file that has it"))
         for child in children(node):
             if child["kind"] == "CXXCtorInitializer":
                 self._guarded(child, lambda one: self._initializer(function, one))
             elif child["kind"] == "CompoundStmt":
                 self._block(child, steps)
             elif child["kind"] == "CXXTryStmt":
-                self.refusals.add(Refused(self.place(child), *REFUSED["CXXTryStmt"]))
+                self.read(child, steps)
         function.body = t.Block(function.place, steps)
 
     def _is_known(self, function: t.Function) -> bool:
@@ -132,7 +153,7 @@ class BodyReader:
             (one.type, one.place) for one in function.parameters
         ]:
             if not is_known(type_):
-                self.refusals.add(Refused(place, *library.unknown_type(type_)))
+                self.refusals.add(Refused(place, *library.unknown_type(type_), function.library))
                 known = False
         return known
 
@@ -165,7 +186,7 @@ class BodyReader:
                 refused.place = self.place(node)
             self.refusals.add(refused)
         except FAULTS:
-            self.refusals.add(Refused(self.place(node), "a construct that isn't known", "write it another way"))
+            self.refusals.add(Refused(self.place(node), NOT_KNOWN, "write it another way"))
 
     # Statements -------------------------------------------------------------------------------------------------------
 
@@ -177,7 +198,7 @@ class BodyReader:
         if kind in SKIPPED:
             return
         if kind in REFUSED:
-            if kind == "LabelStmt":
+            if kind in ("LabelStmt", "CXXTryStmt"):
                 self.read(children(node)[0], out)
             raise Refused(self.place(node), *REFUSED[kind])
         if kind in self._readers:

@@ -7,11 +7,11 @@ members, whose types may be declared later. Bodies aren't read here.
 import re
 from dataclasses import dataclass, field
 
-from ..clang import Node, Unit, children
+from ..clang import Node, Unit, children, walk
 from ..places import Place
-from ..refusals import Refused
+from ..refusals import Refusals, Refused
 from ..tree import Expr, Function, Member, Number, Record, Variable
-from ..types import INT, STREAM, VOID, Int, Object, Reference, Type, TypeReader, Unknown, bare
+from ..types import INT, STREAM, VOID, Int, Object, Pointer, Reference, Type, TypeReader, Unknown, bare
 
 NAMESPACES = ("TranslationUnitDecl", "NamespaceDecl", "LinkageSpecDecl")
 ALIASES = ("TypedefDecl", "TypeAliasDecl")
@@ -40,6 +40,11 @@ class Declarations:
     defaults: dict[Variable, Node] = field(default_factory=dict)
     initials: dict[Variable | Member, Node] = field(default_factory=dict)
     variable_nodes: dict[Variable, Node] = field(default_factory=dict)
+    refusals: Refusals = field(default_factory=Refusals)
+    # By the number of a vector's `emplace_back`, that of the function that makes its item.
+    emplacing: dict[str, str] = field(default_factory=dict)
+    # Variables of which no file of the program has the definition.
+    undefined: set[Variable] = field(default_factory=set)
     # Names of a structured binding, by their numbers: the member that each is.
     bindings: dict[str, Node] = field(default_factory=dict)
     globals: list[Variable] = field(default_factory=list)
@@ -67,9 +72,13 @@ class Declarations:
         for node, owner in self._pending:
             self.types.scope = owner
             self._function(node, owner)
+        defined: set[Variable] = set()
         for node, owner in self._static:
             self.types.scope = owner
-            self.variable(node, True)
+            variable = self.variable(node, True)
+            if _is_defined(node, owner) or self.unit.is_library(node):
+                defined.add(variable)
+        self.undefined = set(self.globals) - defined
         self.types.scope = None
 
     # Names of types ---------------------------------------------------------------------------------------------------
@@ -234,6 +243,7 @@ class Declarations:
         record = Record(re.sub(r"\W+", "_", shown).strip("_"), self.unit.name_place(node))
         record.library = self.unit.is_library(node)
         if record.library and name in ("vector", "initializer_list", "string", "unique_ptr", "shared_ptr"):
+            self._emplacing(node)
             return
         self.records.append(record)
         self.record_nodes[record] = node
@@ -247,6 +257,16 @@ class Declarations:
         for child in children(node):
             if not child.get("isImplicit") or child.get("kind") in METHODS:
                 self._gather(child, scope + name + "::", record)
+
+    def _emplacing(self, node: Node) -> None:
+        """What each `emplace_back` of a vector calls to make the item."""
+        for template in children(node):
+            if template.get("name") == "emplace_back":
+                for method in children(template):
+                    calls = [one for one in walk(method) if one["kind"] == "CallExpr"]
+                    if method["kind"] == "CXXMethodDecl" and calls:
+                        named = [one for one in walk(children(calls[0])[0]) if one["kind"] == "DeclRefExpr"]
+                        self.emplacing[method["id"]] = named[0]["referencedDecl"]["id"]
 
     def _enum(self, node: Node, scope: str, owner: Record | None) -> None:
         fixed = node.get("fixedUnderlyingType")
@@ -262,13 +282,18 @@ class Declarations:
 
     # Second pass ------------------------------------------------------------------------------------------------------
 
+    def _refuse(self, place: Place, what: str, instead: str) -> None:
+        """Refuses a declaration, and goes on: the others are told too."""
+        self.refusals.add(Refused(place, what, instead))
+
     def _members(self, record: Record) -> None:
         node = self.record_nodes[record]
+        if node.get("tagUsed") == "union":
+            self._refuse(record.place, f"the union {record.name}", "write a struct with a member for each")
         bases = node.get("bases", [])
         if len(bases) > 1 or bases and bases[0].get("isVirtual"):
-            raise Refused(
-                record.place, f"{record.name} has several bases", "give it one base, and the others as members"
-            )
+            word = "a virtual base" if len(bases) == 1 else "several bases"
+            self._refuse(record.place, f"{record.name} has {word}", "give it one base, and the others as members")
         if bases:
             base = self.type_of(bases[0])
             if isinstance(base, Object):
@@ -283,7 +308,7 @@ class Declarations:
             if child["kind"] == "FieldDecl":
                 member = Member(child.get("name", "unnamed"), self.type_of(child), self.unit.name_place(child), record)
                 if child.get("isBitfield"):
-                    raise Refused(member.place, "a bit-field", "write a plain member")
+                    self._refuse(member.place, "a bit-field", "write a plain member")
                 record.members.append(member)
                 self.members[child["id"]] = member
                 if child.get("hasInClassInitializer") and children(child):
@@ -338,7 +363,8 @@ class Declarations:
         for one in children(node):
             if one["kind"] == "BindingDecl" and children(one):
                 self.bindings[one["id"]] = children(one)[0]
-        if shared and known not in self.globals and bare(known.type) != STREAM:
+        stream = bare(known.type) == STREAM or node.get("storageClass") == "extern" and self.unit.is_library(node)
+        if shared and known not in self.globals and not stream:
             self.globals.append(known)
         return known
 
@@ -352,10 +378,14 @@ class Declarations:
     def has_body(self, function: Function) -> bool:
         return _has_body(self.nodes[function])
 
+    def is_compilers(self, function: Function) -> bool:
+        """Whether the compiler writes the body."""
+        node = self.nodes[function]
+        return bool(node.get("isImplicit")) or "explicitlyDefaulted" in node
+
     def is_written(self, function: Function) -> bool:
         """Whether the body stands in the text, and isn't the compiler's."""
-        node = self.nodes[function]
-        return _has_body(node) and not node.get("isImplicit") and "explicitlyDefaulted" not in node
+        return _has_body(self.nodes[function]) and not self.is_compilers(function)
 
 
 def is_copying(function: Function) -> bool:
@@ -368,6 +398,13 @@ def is_copying(function: Function) -> bool:
         and isinstance(types[0].to, Object)
         and types[0].to.record is own
     )
+
+
+def _is_defined(node: Node, owner: Record | None) -> bool:
+    """Whether the declaration of a variable makes it."""
+    if node.get("init") or node.get("inline") or node.get("constexpr"):
+        return True
+    return node.get("storageClass") != ("extern" if owner is None else "static")
 
 
 def _has_body(node: Node) -> bool:
@@ -417,5 +454,15 @@ def number(value: int, place: Place, type_: Type = INT) -> Expr:
 
 def is_known(type_: Type) -> bool:
     """Whether nothing in the type is unknown."""
+    return unknown_in(type_) is None
+
+
+def unknown_in(type_: Type) -> Unknown | None:
+    """What in the type is unknown; of a class of the library also in its members."""
+    if isinstance(type_, Unknown):
+        return type_
+    if isinstance(type_, Object) and type_.record.library:
+        parts = [one.type for one in type_.record.members if not isinstance(one.type, (Pointer, Reference))]
+        return next((found for one in parts if (found := unknown_in(one))), None)
     inner = getattr(type_, "to", None) or getattr(type_, "of", None)
-    return not isinstance(type_, Unknown) and (inner is None or is_known(inner))
+    return unknown_in(inner) if inner is not None else None

@@ -39,10 +39,22 @@ CONVERTING = {
     "IntegralCast", "IntegralToBoolean", "PointerToBoolean", "NullToPointer", "DerivedToBase", "UncheckedDerivedToBase",
     "BaseToDerived",
 }  # fmt: skip
+CAST = {
+    "BitCast": ("a pointer as one to what it doesn't point to", "let the pointer have the type of its object"),
+    "LValueBitCast": ("an object as one of another type", "write a conversion member by member"),
+    "PointerToIntegral": ("an address as a number", "give each object a number of its own"),
+    "IntegralToPointer": ("a number as an address", "write a pointer to an object"),
+}
 REFUSED = {
     "FloatingLiteral": ("a number with a fraction", "write whole numbers, scaled (fixed point)"),
     "CXXTypeidExpr": ("typeid", "write a virtual function that tells the kind"),
     "CXXPseudoDestructorExpr": ("a call of a destructor", "leave it out: nothing is freed"),
+    "BinaryConditionalOperator": ("?: without what is between", "write x ? x : y"),
+    "StmtExpr": ("statements in an expression", "write a function"),
+    "VAArgExpr": ("any number of arguments", "write a template, or pass a vector"),
+    "AddrLabelExpr": ("the address of a label", "write a switch"),
+    "OffsetOfExpr": ("offsetof", "name the member"),
+    "CXXNoexceptExpr": ("noexcept as a value", "write true or false"),
 }
 
 
@@ -126,7 +138,7 @@ class ExpressionReader:
             if self.declared.type_of(node) == Pointer(VOID):
                 return self.read(inner)
         if kind == "BitCast" or kind not in CONVERTING:
-            raise Refused(place, f"a cast that isn't known ({kind})", "write it without the cast")
+            raise Refused(place, *CAST.get(kind, (f"a cast that isn't known ({kind})", "write it without the cast")))
         to, operand = self.type(node), self.read(inner)
         if kind in ("DerivedToBase", "UncheckedDerivedToBase", "BaseToDerived") and isinstance(bare(to), Object):
             operand.type = to
@@ -180,11 +192,15 @@ class ExpressionReader:
         if variable is not None:
             if bare(variable.type) == STREAM:
                 return t.Ignored(STREAM, place, [])
+            if not is_known(variable.type):
+                raise Refused(variable.place, *library.unknown_type(variable.type))
+            if variable in self.declared.undefined:
+                raise Refused(place, f"{variable.name}, which is defined nowhere", "name the file that has it")
             constant = self._constant(variable, told["type"]["qualType"])
             type_ = STRING if bare(variable.type) == STRING else bare(self.type(node))
             return constant if constant is not None else t.Name(type_, place, variable)
         if told["kind"] in ("FunctionDecl", "CXXMethodDecl"):
-            raise Refused(place, f"the function {told['name']} as a value", "call it by its name")
+            raise Refused(place, f"the function {told['name']} as a value", "call it by its name, or write a lambda")
         raise Refused(place, f"{told.get('name', 'a name')}, which isn't known", "write it another way", True)
 
     def _constant(self, variable: t.Variable, spelled: str) -> t.Expr | None:
@@ -209,6 +225,8 @@ class ExpressionReader:
         member = self.declared.members.get(node["referencedMemberDecl"])
         if member is None:
             raise Refused(place, f"the member {node['name']}, which isn't known", "write it another way")
+        if not is_known(member.type):
+            raise Refused(place if member.owner.library else member.place, *library.unknown_type(member.type))
         return t.Dot(bare(self.type(node)), place, self.object(base, node["isArrow"]), member)
 
     def object(self, base: Node, arrow: bool) -> t.Expr:
@@ -333,11 +351,11 @@ class ExpressionReader:
         if named["kind"] != "MemberExpr":
             raise Refused(place, "a call through a pointer to a member", "call the method by its name")
         base = children(named)[0]
+        if named["name"].startswith("~"):
+            return t.Ignored(VOID, place, [self.read(base)])
         function = self.declared.functions.get(named["referencedMemberDecl"])
         if function is None or function.library and not self.declared.has_body(function):
             return library.method(self, self.object(base, named["isArrow"]), named["name"], given, node)
-        if named["name"].startswith("~"):
-            return t.Ignored(VOID, place, [])
         receiver = self.object(base, named["isArrow"])
         items = library.items_of(receiver)
         if items is not receiver and named["name"] in ("begin", "end"):

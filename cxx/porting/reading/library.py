@@ -1,5 +1,6 @@
 """Not proved (README.md). What is known of the standard library beside what the stub headers define in C++."""
 
+import re
 from typing import TYPE_CHECKING
 
 from .. import tree as t
@@ -12,6 +13,7 @@ from ..types import (
     BOOL, INT, STREAM, STRING, UNSIGNED_LONG, VOID, Array, Int, Object, Pointer, Reference, Type, Unknown, Vector, bare,
 )  # fmt: skip
 from . import output
+from .declarations import unknown_in
 
 if TYPE_CHECKING:
     from .expressions import ExpressionReader
@@ -26,22 +28,27 @@ VECTOR_METHODS = {
 
 def unknown_type(type_: Type) -> tuple[str, str]:
     """What is said of a type that isn't known, and what to write instead."""
-    while isinstance(type_, (Pointer, Reference)):
-        type_ = type_.to
-    while isinstance(type_, (Array, Vector)):
-        type_ = type_.of
-    name = type_.name if isinstance(type_, Unknown) else str(type_)
-    if name in ("double", "float", "long double"):
+    found = unknown_in(type_)
+    name = found.name if found is not None else str(type_)
+    if name in ("double", "float", "long double", "_Float16", "__float128"):
         return f"the type {name}", "write whole numbers, scaled (fixed point)"
-    if "lambda" in name or "(" in name:
-        return f"the type {name}", "call functions by their names"
+    if name in ("wchar_t", "char8_t", "char16_t", "char32_t", "__int128", "unsigned __int128"):
+        return f"the type {name}", "write char, int or long"
+    if "lambda" in name or "(" in name and "::" not in name:
+        return f"the type {name}", "call functions by their names, or pass a lambda to a template"
+    if "::*" in name or "::" in name and "(" in name or name.endswith("::"):
+        return "a pointer to a member", "name the member, or write a function"
+    if re.search(r"\[\w+\]$", name):
+        return "an array whose length isn't constant", "write a vector"
     return f"the type {name}, which isn't known", "write a class of your own, or a vector"
 
 
 def call(reader: "ExpressionReader", name: str, given: list[Node], node: Node, function: t.Function | None) -> t.Expr:
     """A call of a function that has no body here."""
     place = reader.place(node)
-    if name in ("printf", "puts", "putchar"):
+    if name == "fflush":
+        return t.Ignored(VOID, place, [])
+    if name in ("printf", "puts", "putchar", "fprintf"):
         return output.printed(reader, name, given, node)
     if name in ("max", "min"):
         if len(given) != 2:
@@ -93,16 +100,23 @@ def method(reader: "ExpressionReader", receiver: t.Expr, name: str, given: list[
         return t.Item(of.of, place, receiver, reader.read(given[0]))
     if name == "front":
         return t.Item(of.of, place, receiver, t.Number(UNSIGNED_LONG, place, 0))
+    if name == "data":
+        name = "begin"
+    if name == "swap":
+        return t.Swap(VOID, place, receiver, reader.read(given[0]))
+    if name == "shrink_to_fit":
+        return t.Ignored(VOID, place, [])
+    if name == "assign" and not isinstance(reader.type(given[0]), Int):
+        raise Refused(place, "vector's assign of a range", "clear it, and fill it by a loop")
     if name in ("erase", "insert"):
         return _at_iterator(reader, receiver, of, name, given, node)
     if name not in VECTOR_METHODS:
         raise Refused(place, f"vector's {name}", "write a loop with an index")
+    if name == "emplace_back":
+        return t.VectorCall(VOID, place, "push_back", receiver, [_emplaced(reader, of.of, given, node)])
     arguments = [reader.read(one) for one in given if one["kind"] != "CXXDefaultArgExpr"]
     results: dict[str, Type] = {"size": UNSIGNED_LONG, "empty": BOOL, "back": of.of}
     result = Pointer(of.of) if name in ("begin", "end") else results.get(name, VOID)
-    if name == "emplace_back":
-        arguments = [_emplaced(reader, of.of, arguments, node)]
-        name = "push_back"
     return t.VectorCall(result, place, name, receiver, arguments)
 
 
@@ -154,10 +168,17 @@ def items_of(items: t.Expr) -> t.Expr:
     return items
 
 
-def _emplaced(reader: "ExpressionReader", item: Type, arguments: list[t.Expr], node: Node) -> t.Expr:
-    if len(arguments) == 1 and bare(arguments[0].type) == item:
-        return arguments[0]
-    raise Refused(reader.place(node), "emplace_back with the arguments of a constructor", "write push_back(Item(..))")
+def _emplaced(reader: "ExpressionReader", item: Type, given: list[Node], node: Node) -> t.Expr:
+    """The item that `emplace_back` adds: what is given, or what a constructor makes of it."""
+    if len(given) == 1 and bare((only := reader.read(given[0])).type) == item:
+        return only
+    method = reader.callee(children(node)[0]).get("referencedMemberDecl", "")
+    function = reader.declared.functions.get(reader.declared.emplacing.get(str(method), ""))
+    if function is None:
+        raise Refused(
+            reader.place(node), "emplace_back with the arguments of a constructor", "write push_back(Item(..))"
+        )
+    return reader.called(function, None, given, node)
 
 
 def _at_iterator(

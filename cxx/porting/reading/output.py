@@ -32,6 +32,7 @@ WORDS = {
     "boolalpha": None,
     "noboolalpha": None,
 }
+ADDRESS = ("an address that is printed", "print a number that the object has: an address differs from run to run")
 NEEDED = ("write the value by printf's %d, %u, %x, %c or %s", "write << of numbers, characters and literal strings")
 
 
@@ -68,8 +69,16 @@ def source(where: Node) -> str:
 
 
 def printed(reader: "ExpressionReader", name: str, given: list[Node], node: Node) -> t.Expr:
-    """printf, puts or putchar."""
+    """printf, puts or putchar; fprintf to stdout or stderr."""
     place = reader.place(node)
+    if name == "fprintf":
+        stream = reader.callee(given[0]).get("referencedDecl", {}).get("name")
+        if stream not in ("stdout", "stderr"):
+            raise Refused(place, "a print to a file", "print to the standard output")
+        made = printed(reader, "printf", given[1:], node)
+        assert isinstance(made, t.Print)
+        made.standard = stream == "stdout"
+        return made
     if name == "putchar":
         return t.Print(VOID, place, [("c", reader.read(given[0]))])
     format_ = reader.read(given[0])
@@ -89,6 +98,8 @@ def _parts(
     at = 0
     while at < len(format_.value):
         found = FORMAT.match(format_.value, at)
+        if format_.value.startswith("%p", at):
+            raise Refused(place, *ADDRESS)
         if found is None:
             raise Refused(place, f"the format {json.dumps(format_.value[at:at + 6])}", NEEDED[0])
         at = found.end()
@@ -207,6 +218,8 @@ def _way(type_: Type, place: Place) -> str:
         if type_.letter or type_.width == 8:
             return "c"
         return f"{'d' if type_.signed else 'u'}{type_.width}"
+    if isinstance(type_, Pointer):
+        raise Refused(place, *ADDRESS)
     raise Refused(place, "a value that is printed", NEEDED[1])
 
 

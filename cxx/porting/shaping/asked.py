@@ -11,6 +11,9 @@ from .building import Shape, copied, replace, this
 from .sums import _first, _replaced
 
 
+NAME = "value method to an operation"
+
+
 def made_operation(shape: Shape, method: form.Method) -> form.Method | None:
     """The operation, which callers ask in place of the method; None where it can't be."""
     if not method.pure or method.result is None or facts.recursive(method):
@@ -35,6 +38,7 @@ def made_operation(shape: Shape, method: form.Method) -> form.Method | None:
         method.cls.methods.remove(made)
         method.cls.slots.remove(slot)
         return None
+    shape.count(NAME)
     return made
 
 

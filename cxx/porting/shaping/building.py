@@ -20,6 +20,12 @@ class Shape:
     told: list[tuple[Place, str]] = field(default_factory=list)
     # The methods that are a loop of the user, by its place.
     loops: dict[form.Method, Place] = field(default_factory=dict)
+    # How often each rewrite was done, by its name.
+    done: dict[str, int] = field(default_factory=dict)
+
+    def count(self, name: str, times: int = 1) -> None:
+        if times:
+            self.done[name] = self.done.get(name, 0) + times
 
     def tell(self, place: Place, words: str) -> None:
         if (place, words) not in self.told:
@@ -102,6 +108,16 @@ def fitted(body: list[form.Statement], parameters: list[form.Local], used: set[s
         names[local] = form.Local(unique(local.name, taken), local.type)
     renamed(body, names)
     return [names[one] for one in parameters]
+
+
+def own_copies(made: form.Method) -> None:
+    """Parameters that are put become locals, which start at what is given."""
+    changed = facts.assigned(made.body)
+    for at, one in enumerate(made.parameters):
+        if one in changed:
+            given = form.Local(one.name + "_given", one.type)
+            made.parameters[at] = given
+            made.body.insert(0, form.Let(one, given, made.place))
 
 
 def this(cls: form.Class) -> form.This:

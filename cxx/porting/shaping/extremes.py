@@ -5,22 +5,25 @@ greater of the two. Steps: about the same; the update is always done.
 """
 
 from .. import form
+from .building import Shape
 
+NAME = "guarded update to max or min"
 GREATER, SMALLER = (">", ">="), ("<", "<=")
 
 
-def all_of(method: form.Method) -> None:
-    _block(method.body)
+def all_of(shape: Shape, method: form.Method) -> None:
+    _block(shape, method.body)
 
 
-def _block(body: list[form.Statement]) -> None:
+def _block(shape: Shape, body: list[form.Statement]) -> None:
     for at, one in enumerate(body):
         for block in form.blocks(one):
-            _block(block)
+            _block(shape, block)
         if isinstance(one, form.If):
             new = _extreme(one)
             if new is not None:
                 body[at] = new
+                shape.count(NAME)
 
 
 def _extreme(one: form.If) -> form.Put | None:

@@ -13,6 +13,9 @@ from . import facts
 from .building import Shape, copied, replace, this
 
 
+NAME = "what is added to one object given back to it"
+
+
 def all_of(shape: Shape, method: form.Method) -> bool:
     """Gathers in the operation; whether anything was."""
     if method.pure:
@@ -47,6 +50,7 @@ def _call(shape: Shape, method: form.Method, one: form.Do, handed: int) -> bool:
         new.append(form.Put(form.Field(this(method.cls), name, form.LONG), "+", value, one.place))
     at = method.body.index(one)
     method.body[at : at + 1] = new
+    shape.count(NAME)
     shape.tell(one.place, f"what {one.method.origin} adds to one object is given back to it")
     return True
 

@@ -10,6 +10,9 @@ from . import facts
 from .building import ROOT, Shape, copied, fitted, replace, this
 
 
+NAME = "statements on another object to one operation of it"
+
+
 def all_of(shape: Shape, method: form.Method) -> None:
     if not method.pure:
         _block(shape, method, method.body)
@@ -134,6 +137,7 @@ def _grouped(shape: Shape, method: form.Method, run: list[form.Statement], owner
     parameters = facts.free(made.body)
     given = [handed.get(one, one) for one in parameters]
     made.parameters = fitted(made.body, parameters, cls.names())
+    shape.count(NAME)
     shape.tell(run[0].place, f"what is done to one {cls.origin or cls.name} made one operation of it")
     return form.Do(made, owner, list(given), None, run[0].place)
 

@@ -11,6 +11,9 @@ from . import facts
 from .building import Shape, copied, fitted, replace, this
 
 
+NAME = "guarded updates to one guarded call"
+
+
 def all_of(shape: Shape, method: form.Method) -> None:
     if not method.pure:
         for one in form.statements(method.body):
@@ -18,6 +21,7 @@ def all_of(shape: Shape, method: form.Method) -> None:
                 call = _called(shape, method, one)
                 if call is not None:
                     one.yes = [call]
+                    shape.count(NAME)
 
 
 def _foreign(condition: form.Expr) -> bool:

@@ -10,6 +10,9 @@ from . import facts
 from .building import ROOT, Shape, replace
 
 
+NAME = "argument that a recursion hands on to a field"
+
+
 def lifted(shape: Shape, method: form.Method) -> bool:
     """Lifts what can be lifted; whether anything was."""
     inner = [one for one in form.statements(method.body) if isinstance(one, form.Do) and one.method is method]
@@ -42,6 +45,7 @@ def lifted(shape: Shape, method: form.Method) -> bool:
         if isinstance(one, form.Do) and one.method is method:
             one.arguments = [value for at, value in enumerate(one.arguments) if at not in fields]
     method.parameters = [one for at, one in enumerate(method.parameters) if at not in fields]
+    shape.count(NAME, len(fields))
     shape.tell(method.place, f"what {method.origin} hands on unchanged put into fields")
     return True
 

@@ -6,16 +6,18 @@ arguments, its locals get names of their own; so the same statements run in the 
 
 from .. import form
 from . import facts
-from .building import copied, renamed
+from .building import Shape, copied, renamed
 
+NAME = "call on the own object put in"
 LARGEST = 40
 
 
-def on_this(method: form.Method, depth: int = 0) -> None:
+def on_this(shape: Shape, method: form.Method, depth: int = 0) -> None:
     """Puts in what the method calls on its own object."""
     used = {one.name for one in method.parameters} | {one.name for one in facts.used(method.body)}
     if depth < 4 and _block(method, method.body, used):
-        on_this(method, depth + 1)
+        shape.count(NAME)
+        on_this(shape, method, depth + 1)
 
 
 def _block(method: form.Method, body: list[form.Statement], used: set[str]) -> bool:

@@ -8,6 +8,7 @@ from .. import form
 from . import facts
 from .building import ROOT, Shape, fitted, replace, this
 
+NAME = "large expression to a value method"
 SMALLEST = 2
 
 
@@ -58,6 +59,7 @@ def _value(shape: Shape, method: form.Method, value: form.Expr, name: str, writt
             read |= facts.effects(one.method.body).reads
     if read & written:
         return value
+    shape.count(NAME)
     made = shape.method(method.cls, f"{method.name}_{name}", method, method.place)
     made.pure, made.result = True, form.LONG
     if method.cls.name == "Program":

@@ -6,19 +6,23 @@ whatever object, and not both print, make objects or end the run. So each reads 
 
 from .. import form
 from . import facts
+from .building import Shape
 
 
-def own_first(method: form.Method) -> None:
+NAME = "own update before a call"
+
+
+def own_first(shape: Shape, method: form.Method) -> None:
     """Moves statements of the section before calls and writes to other objects, where they may be."""
     if not method.pure:
-        _block(method.body)
+        _block(shape, method.body)
 
 
-def _block(body: list[form.Statement]) -> None:
+def _block(shape: Shape, body: list[form.Statement]) -> None:
     for one in body:
         if isinstance(one, form.If):
             for block in form.blocks(one):
-                _block(block)
+                _block(shape, block)
     for at in range(1, len(body)):
         if goes_out([body[at]]):
             continue
@@ -29,6 +33,7 @@ def _block(body: list[form.Statement]) -> None:
         first = next((k for k in range(place, at) if goes_out([body[k]])), at)
         if first < at and all(not _bound(body[k], body[at]) for k in range(first, at)):
             body.insert(first, body.pop(at))
+            shape.count(NAME)
 
 
 def goes_out(body: list[form.Statement]) -> bool:

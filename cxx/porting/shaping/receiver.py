@@ -10,6 +10,9 @@ from . import facts
 from .building import ROOT, Shape, fitted, replace, this
 
 
+NAME = "function to an operation of its object"
+
+
 def parameter(method: form.Method) -> tuple[form.Local, bool] | None:
     """The parameter that can be the receiver, and whether callers have to ask whether it is null."""
     if method.pure or method.result is not None:
@@ -138,6 +141,7 @@ def moved(shape: Shape, method: form.Method) -> form.Method | None:
     calls = _Calls(method, made, at, asks, old_this is not None)
     for caller in shape.program.methods():
         caller.body = calls.changed(caller.body)
+    shape.count(NAME)
     shape.tell(method.place, f"{method.origin} made an operation of {cls.origin or cls.name}")
     return made
 

@@ -2,7 +2,6 @@
 
 import sys
 
-from .. import finishing
 from ..check import Differs, written
 from ..engine import BUDGET, Answer, ask
 from ..port import Ported, Porter
@@ -12,7 +11,6 @@ from .search import finished, searched
 def shaped(porter: Porter, plain: Ported, answer: Answer) -> Ported:
     """The rewritten port; the plain one where nothing was rewritten, or where the runs differ, which is told."""
     program, sites = porter.lowered(porter.capacities)
-    finishing.begin(program)
     shape = searched(program)
     if not shape.told:
         return plain

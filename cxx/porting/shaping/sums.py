@@ -12,6 +12,7 @@ from ..finishing import jumps
 from . import facts
 from .building import ROOT, Shape, copied, fitted
 
+NAME = "sum that a recursion gives back to a total"
 TOTAL = "Total"
 
 
@@ -39,6 +40,7 @@ def summed(shape: Shape, method: form.Method) -> form.Method | None:
     if not _asked(shape, method, made):
         method.cls.methods.remove(made)
         return None
+    shape.count(NAME)
     shape.tell(method.place, f"{method.origin} adds to a total in place of giving back a sum")
     return made
 

@@ -12,6 +12,11 @@ from . import facts
 from .building import Shape, copied, renamed, replace, this
 
 
+LOOP = "loop that only computes to value methods"
+DIVISION = "division to a value method"
+SECTION = "section to value methods"
+
+
 def divisions(shape: Shape, method: form.Method) -> None:
     """Divisions by what may be zero as calls of a value method."""
     if method.pure:
@@ -21,6 +26,7 @@ def divisions(shape: Shape, method: form.Method) -> None:
     def change(expr: form.Expr) -> form.Expr | None:
         if isinstance(expr, form.Binary) and expr.operator in ("/", "%"):
             if not (isinstance(expr.right, form.Number) and expr.right.value not in (0, -1)):
+                shape.count(DIVISION)
                 parts = tuple(form.mapped(one, change) for one in (expr.left, expr.right))
                 return form.Apply(
                     _quotient(shape, method.cls, expr.operator, made, method), this(method.cls), parts, form.LONG
@@ -61,6 +67,9 @@ def _block(shape: Shape, method: form.Method, body: list[form.Statement], later:
         if isinstance(one, (form.Loop, form.Count)) and may_be(one):
             new = _values(shape, method, one, behind)
             if new is not None:
+                shape.count(LOOP)
+                if one.user:
+                    shape.tell(one.place, "loop made a function that only computes")
                 body[at : at + 1] = new
                 at += len(new)
                 continue
@@ -141,6 +150,7 @@ def flattened(shape: Shape, method: form.Method) -> bool:
     if new is None:
         return False
     method.body = new + rest
+    shape.count(SECTION)
     return True
 
 

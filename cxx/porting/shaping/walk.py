@@ -8,8 +8,14 @@ Steps: a call for each turn, all of them waiting at once.
 """
 
 from .. import form
+from ..words import unique
 from . import facts, inline
-from .building import ROOT, Shape, copied, fitted, replace, this
+from .building import Shape, copied, fitted, own_copies, replace, this
+from .turn import Body, hand_over_this, promoted, to_field
+
+
+NAME = "walk along a list to a recursion"
+REST = "loop to a recursion"
 
 
 def walked(
@@ -47,67 +53,47 @@ def _link(loop: form.Statement) -> form.Expr | None:
 def _along(
     shape: Shape, method: form.Method, block: list[form.Statement], loop: form.Count, link: form.Expr, lifts: bool
 ) -> form.Method | None:
-    # (a field is one for the program: another entry of the function would put its own argument there)
-    lifts = lifts and not facts.recursive(method)
-    body = copied(loop.body)
-    own = facts.declared(body)
-    if any(one not in own for one in facts.assigned(body)):
-        from .turn import promoted
-
-        if not promoted(
-            shape, method, [one for one in facts.used(loop.body) if one in facts.assigned(loop.body) and one not in own]
-        ):
-            return None
-        body = copied(loop.body)
+    if not promoted(shape, method, loop):
+        return None
     assert isinstance(loop.counter.type, form.Pointer)
     cls = shape.program.classes[loop.counter.type.cls]
-    parameters: list[form.Local] = []
-    given: list[form.Expr] = []
-    if any(isinstance(one, form.This) for one in form.expressions(body)):
-        owner = form.Local("owner_", form.Pointer(method.cls.name))
-        root = method.cls.name == "Program"
-        replace(body, lambda expr: (ROOT if root else owner) if isinstance(expr, form.This) else None)
-        if not root:
-            parameters.append(owner)
-            given.append(this(method.cls))
-    replace(body, lambda expr: this(cls) if expr == loop.counter else None)
+    it = Body(copied(loop.body), cls, loop.first)
+    hand_over_this(it, method)
+    replace(it.body, lambda expr: this(cls) if expr == loop.counter else None)
     next_ = form.mapped(link, lambda expr: this(cls) if expr == loop.counter else None)
     made = shape.method(cls, f"{method.name}_walk", method, loop.place)
     made.origin = f"a turn of the loop at {loop.place.line}"
-    made.body = body
-    inline.on_this(made)
-    for local in facts.free(made.body):
-        if local not in parameters:
-            parameters.append(local)
-            given.append(local)
-    keep = [at for at, one in enumerate(parameters) if one in facts.free(made.body)]
-    parameters, given = [parameters[at] for at in keep], [given[at] for at in keep]
+    made.body = it.body
+    inline.on_this(shape, made)
+    it.add(facts.free(made.body))
+    it.keep(facts.free(made.body))
     before: list[form.Statement] = []
-    if lifts:
-        program = shape.program.classes["Program"]
-        for local, value in zip(parameters, given):
-            slot = shape.slot(program, f"{made.name}_{local.name}", local.type, local.name)
-            target = form.Field(ROOT, slot.name, local.type)
-            replace(made.body, lambda expr, local=local, target=target: target if expr == local else None)  # type: ignore[misc]
-            before.append(form.Put(target, "", value, loop.place))
-        parameters, given = [], []
-    call = form.Do(made, next_, list(parameters), None, loop.place)
+    # (a field is one for the program: another entry of the function would put its own argument there)
+    if lifts and not facts.recursive(method):
+        before = [
+            form.Put(to_field(shape, made, local), "", value, loop.place)
+            for local, value in zip(it.parameters, it.given)
+        ]
+        it.keep([])
+    call = form.Do(made, next_, list(it.parameters), None, loop.place)
     made.body.append(form.If(_there(next_), [call], [], loop.place))
-    made.parameters = fitted(made.body, parameters, cls.names())
-    first = form.Local(f"{loop.counter.name}_first", loop.counter.type)
-    used = {one.name for one in facts.used(method.body)}
-    while first.name in used:
-        first = form.Local(first.name + "_", first.type)
-    start: list[form.Statement] = [
-        form.Let(first, loop.first, loop.place),
-        *before,
-        form.If(_there(first), [form.Do(made, first, given, None, loop.place)], [], loop.place),
-    ]
+    made.parameters = fitted(made.body, it.parameters, cls.names())
     at = block.index(loop)
-    block[at : at + 1] = start
+    block[at : at + 1] = _started(method, loop, made, before, it.given)
     shape.loops[made] = loop.place
+    shape.count(NAME)
     shape.tell(loop.place, f"walk along a list made a recursion of {cls.origin or cls.name}")
     return made
+
+
+def _started(
+    method: form.Method, loop: form.Count, made: form.Method, before: list[form.Statement], given: list[form.Expr]
+) -> list[form.Statement]:
+    """What stands in place of the loop."""
+    used = {one.name for one in facts.used(method.body)} | method.cls.names()
+    first = form.Local(unique(f"{loop.counter.name}_first", used), loop.counter.type)
+    call = form.Do(made, first, given, None, loop.place)
+    return [form.Let(first, loop.first, loop.place), *before, form.If(_there(first), [call], [], loop.place)]
 
 
 def _there(pointer: form.Expr) -> form.Binary:
@@ -145,17 +131,11 @@ def _tail(
     given: list[form.Expr] = [
         loop.first if isinstance(loop, form.Count) and one == loop.counter else one for one in parameters
     ]
-    fixed = fitted(made.body, parameters, method.cls.names())
-    made.parameters = []
-    for one in fixed:
-        if one in facts.assigned(made.body):
-            start = form.Local(one.name + "_given", one.type)
-            made.parameters.append(start)
-            made.body.insert(0, form.Let(one, start, loop.place))
-        else:
-            made.parameters.append(one)
+    made.parameters = fitted(made.body, parameters, method.cls.names())
+    own_copies(made)
     block[at : at + 1] = [form.Do(made, this(method.cls), given, None, loop.place)]
     shape.loops[made] = loop.place
+    shape.count(REST)
     shape.tell(loop.place, "loop made a recursion")
     return made
 
