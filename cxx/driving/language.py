@@ -66,6 +66,8 @@ class Source:
             elif token == "(" and depth == 1 and owner:
                 self.operations.setdefault(f"{owner}::{before[1]}", last)
             depth += {"{": 1, "}": -1}.get(token, 0)
+            if depth == 0 and token == "}":
+                owner = ""
             before, last = [before[1], token], at
 
     def _place(self, at: int) -> Place:
