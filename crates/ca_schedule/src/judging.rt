@@ -41,8 +41,7 @@ fn comes_often(counts: Counts, calls: usize, objects: u32) -> bool {
     if below >= u64::from(objects) {
         return true;
     }
-    let each = counts.ran / counts.begun.max(1);
-    let all = (calls as u64).saturating_mul(each);
+    let all = (calls as u64).saturating_mul(u64::from(leads_of(counts)));
     counts.begun >= 2 && all / OFTEN >= u64::from(objects)
 }
 
@@ -55,8 +54,7 @@ fn sums_pay(counts: Counts, often: bool, workers: u32) -> bool {
     if counts.objects.saturating_mul(2) > counts.ran && !often {
         return false;
     }
-    let leads = counts.ran / counts.begun.max(1);
-    leads >= LEADS && steps_of_each(counts) as usize <= WHOLE
+    u64::from(leads_of(counts)) >= LEADS && steps_of_each(counts) as usize <= WHOLE
 }
 
 /// How many of the operations came to an object that none came to before, if the others of the list do as these: where they came to half of

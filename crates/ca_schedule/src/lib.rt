@@ -5,10 +5,12 @@
 //! a list by a sample of its operations, which run beside the heap and are forgotten (`sampling`, `judging`), and lists to come by those
 //! before them (`tables`, `habits`). `thinning` leaves the marks of operations that only open marked loops to these.
 //!
+//! `back` has the way back of a list that has begun rounds: where one met more than the sample told, what is left goes on in order.
 //! `patience` tells how long what runs ahead of rounds may take, and `neighbours` which operations pass the gate there. `roots` has the
 //! extent of calls, and `copies` whether each worker may keep sums of its own.
 #![tactic(auto)]
 
+mod back;
 mod copies;
 mod further;
 mod habits;
@@ -25,6 +27,7 @@ mod texts;
 mod thinning;
 mod weights;
 
+pub use back::{Expected, Met};
 pub use copies::may_copy;
 pub use neighbours::{Entered, Neighbours, SharedGate, takes_lock};
 pub use patience::Patience;

@@ -1,5 +1,6 @@
 //! All numbers that decide how a marked list is run, each with what it was measured by. Each choice is sound: whatever is chosen, a run
-//! that returns writes what the serial run does. So they only decide how long it takes, and they may be changed without a proof.
+//! that returns writes what the serial run does. So they only decide how long it takes, and they may be changed without a proof, but for
+//! `MOST_COPIED`, which the clause of `may_copy` names.
 //!
 //! There is no clock among the handles of this project. What runs is counted instead: in *parts*, a statement, an operator, a read or a
 //! local of a body, and in *steps*, a call or a turn of a loop. A part takes some 2.5 nanoseconds, a step has 3 to 50 parts.
@@ -60,8 +61,9 @@ pub const TRIED_PARTS: u64 = 40_000;
 /// A single operation that weighs so much tells enough of a list: it may be one of few, each a tenth of a second long.
 pub const TRIED_BY_ONE: u64 = 160_000;
 
-/// Where an object has more values on the mean nothing is tried, since a sample copies the objects that change: 1 MB each.
-pub const LARGE_OBJECT: u32 = 65_536;
+/// An object that has a field of more items isn't copied, for a sample or for a list of few calls: a copy takes 1 MB, and as long as the
+/// whole sample.
+pub const LARGE_ARRAY: u32 = 65_536;
 
 /// A list of more calls than these is tried at so many places, since turns of a loop may grow or shrink.
 pub const PLACES: usize = 8;
@@ -110,6 +112,12 @@ pub const MOST_AT_ONCE: usize = 256;
 
 /// and so many lists at most do behind one that wasn't worth a round.
 pub const MOST_ALONE: u32 = 65_536;
+
+// ---- A way back
+
+/// What has begun rounds goes on in order where one cost more than so many times what it ran: by four workers that took three quarters of what
+/// one worker takes, at three times its processor time.
+pub const TOO_DEAR: u64 = 2;
 
 // ---- What is learned
 

@@ -1,6 +1,9 @@
-//! What is tried of a list: some of its operations run beside the heap and past no gate, are counted, and are forgotten. No clause speaks of
-//! it: it leaves the heap, which is lent, as it was.
+//! What is tried of a list: some of its operations run beside the heap and past no gate, are counted, and are forgotten. Only objects of those
+//! that take a lock are copied. No clause speaks of it: it leaves the heap, which is lent, as it was.
 
+ghost use Rattle.std.specs.Prelude.{◌<◌};
+
+use crate::copies::is_large;
 use crate::neighbours::takes_lock;
 use crate::policy::{LOCKED_TASK, PLACES, TRIED, TRIED_BY_ONE, TRIED_OF_FEW, TRIED_PARTS, WIDE};
 use crate::weights::{Known, calls_in_loop, turn_of, weight_of};
@@ -9,7 +12,7 @@ use ca_beside::Beside;
 use ca_model::Heap;
 use ca_parallel::Op;
 use ca_run::{Progress, run_some};
-use ca_sections::{Coded, Desk};
+use ca_sections::{Coded, Desk, SectionAnswer, section_frozen};
 use std::alloc::Global;
 use std::mem;
 
@@ -30,7 +33,7 @@ pub struct Counts {
     pub rest: u64,
     /// A call listed many.
     pub wide: bool,
-    /// They came to so many objects; so many operations, half of those that may be tried, came to so many.
+    /// Those with a lock came to so many objects; so many operations, half of those that may be tried, came to so many.
     pub objects: u64,
     pub half: u64,
     pub near: u64,
@@ -73,6 +76,13 @@ fn tries(objects: u32) -> u64 {
     TRIED.min(TRIED_OF_FEW + 2 * u64::from(objects))
 }
 
+/// At how many places a list of so many calls is tried: a short one from its first call on.
+fn places_of(calls: usize) -> usize
+    ensures { 0 < result }
+{
+    if calls <= PLACES { 1 } else { PLACES }
+}
+
 /// So many calls from a place on, as far as there are.
 fn some_from(calls: &[Op], from: usize, count: usize) -> &[Op] {
     if from >= calls.len() {
@@ -84,6 +94,48 @@ fn some_from(calls: &[Op], from: usize, count: usize) -> &[Op] {
     } else {
         rest
     }
+}
+
+/// The steps of a section that is done.
+fn steps_in(went: Result<SectionAnswer, Memory>) -> Option<u64> {
+    match went {
+        Ok(SectionAnswer::Done { steps }) => Some(steps),
+        Ok(SectionAnswer::Trapped(_)) => None,
+        Ok(SectionAnswer::Spent) => None,
+        Err(_) => None,
+    }
+}
+
+/// Runs the next operation of a walk, which takes no lock, on its object as it is in the heap. Its steps, where it is done.
+fn run_free(
+    desk: &mut Desk,
+    alloc: Global,
+    program: &Coded<'_>,
+    heap: &Heap,
+    calls: &[Op],
+    left: u64,
+    walk: &mut Walk,
+) -> Option<u64> {
+    if let Some(op) = walk.waiting.pop() {
+        let went = section_frozen(desk, alloc, program, heap, &op, left, &mut walk.waiting);
+        desk.give_back(op);
+        return steps_in(went);
+    }
+    let at = walk.next;
+    if at >= calls.len() {
+        return None;
+    }
+    walk.next = at + 1;
+    let went = section_frozen(
+        desk,
+        alloc,
+        program,
+        heap,
+        &calls[at],
+        left,
+        &mut walk.waiting,
+    );
+    steps_in(went)
 }
 
 impl Counts {
@@ -151,7 +203,38 @@ impl Sampler {
         }
     }
 
-    /// Tries the next operation of a walk: `Some(false)` where none is left, `None` where it is stuck or memory is wanting.
+    /// Runs the next operation of a walk, which takes a lock, on a copy of its object. Its steps, where it is done.
+    fn run_locked(
+        &mut self,
+        desk: &mut Desk,
+        program: &Coded<'_>,
+        heap: &Heap,
+        calls: &[Op],
+        left: u64,
+        walk: &mut Walk,
+    ) -> Option<u64> {
+        let went = run_some(
+            &OpenGate,
+            desk,
+            self.alloc,
+            program,
+            heap,
+            &mut self.beside,
+            calls,
+            &mut walk.next,
+            &mut walk.waiting,
+            left,
+            1,
+        );
+        match went {
+            Ok(Progress::Went { steps }) => Some(steps),
+            Ok(Progress::Stuck) => None,
+            Err(_) => None,
+        }
+    }
+
+    /// Tries the next operation of a walk: `Some(false)` where none is left, `None` where it is stuck, memory is wanting, or a large object
+    /// would be copied.
     fn try_next(
         &mut self,
         desk: &mut Desk,
@@ -170,22 +253,17 @@ impl Sampler {
         let turn = turn_of(known, op);
         let opens = calls_in_loop(known, op);
         let locks = takes_lock(self.alloc, program.program(), known, op.op);
+        if locks && is_large(heap, op.receiver) {
+            return None;
+        }
         let waited = walk.waiting.len();
         let still = left.saturating_sub(counts.steps);
-        let went = run_some(
-            &OpenGate,
-            desk,
-            self.alloc,
-            program,
-            heap,
-            &mut self.beside,
-            calls,
-            &mut walk.next,
-            &mut walk.waiting,
-            still,
-            1,
-        );
-        let Ok(Progress::Went { steps }) = went else {
+        let went = if locks {
+            self.run_locked(desk, program, heap, calls, still, walk)
+        } else {
+            run_free(desk, self.alloc, program, heap, calls, still, walk)
+        };
+        let Some(steps) = went else {
             return None;
         };
         let own = counts.add(steps, weight, turn, locks);
@@ -240,7 +318,7 @@ impl Sampler {
         true
     }
 
-    /// Tries a list at some places, or a short one from its first call on. Whether none is stuck.
+    /// Tries a list at its places. Whether none is stuck.
     fn try_list(
         &mut self,
         desk: &mut Desk,
@@ -252,23 +330,11 @@ impl Sampler {
         most: u64,
         counts: &mut Counts,
     ) -> bool {
-        if first.len() <= PLACES {
-            return self.try_calls(
-                desk,
-                program,
-                heap,
-                known,
-                first,
-                left,
-                most,
-                TRIED_PARTS,
-                counts,
-            );
-        }
-        let each = first.len() / PLACES;
-        let few = most / (PLACES as u64);
-        let heavy = TRIED_PARTS / (PLACES as u64);
-        'places: for place in 0..PLACES {
+        let places = places_of(first.len());
+        let each = first.len() / places;
+        let few = most / (places as u64);
+        let heavy = TRIED_PARTS / (places as u64);
+        'places: for place in 0..places {
             let calls = some_from(first, place.saturating_mul(each), each);
             if !self.try_calls(desk, program, heap, known, calls, left, few, heavy, counts) {
                 return false;

@@ -10,10 +10,11 @@
 ghost use Rattle.std.specs.Prelude.{◌≡◌, ◌<◌, IfOk};
 ghost use Rattle.ca_schedule.specs.Fewer.{FewerMarks};
 
-use crate::copies::may_copy;
+use crate::back::Expected;
+use crate::copies::{may_copy, some_large};
 use crate::habits::Habit;
-use crate::judging::{is_worth, is_worth_at_once, leads_of, pays, steps_of_each};
-use crate::policy::{ALONE, FEW_OBJECTS, LARGE_OBJECT, MOST_AT_ONCE};
+use crate::judging::{is_worth, is_worth_at_once, pays, steps_of_each};
+use crate::policy::{ALONE, FEW_OBJECTS, MOST_AT_ONCE};
 use crate::reaches::{all_brief, all_light, is_long, some_long};
 use crate::roots::extent_of_calls;
 use crate::sampling::Sampler;
@@ -48,11 +49,6 @@ pub struct Schedule {
     habit: Habit,
     sampler: Sampler,
     ghost some: { 0 < workers },
-}
-
-/// Whether objects are too large to be copied for a sample.
-fn has_large_objects(heap: &Heap) -> bool {
-    heap.values() / heap.len().max(1) > LARGE_OBJECT
 }
 
 impl Schedule {
@@ -150,8 +146,7 @@ impl Schedule {
         }
     }
 
-    /// About how many steps each of some calls takes, where they gain by rounds; 0 where they don't. They are tried where that isn't known,
-    /// and objects aren't too large for it.
+    /// About how many steps each of some calls takes, where they gain by rounds; 0 where they don't. They are tried where that isn't known.
     fn steps_by_rounds(
         &mut self,
         program: &Coded<'_>,
@@ -159,36 +154,35 @@ impl Schedule {
         first: &[Op],
         left: u64,
     ) -> u32 {
-        if has_large_objects(heap) {
-            return 0;
-        }
         if let Some(each) = self.tables.steps_now(first) {
             return each;
         }
         let known = &mut self.tables.known;
         let Some(counts) = self.sampler.sample(program, heap, known, first, left) else {
-            self.tables.note_steps(first, 0, 1, 0);
+            self.tables.note_loss(first);
             return 0;
         };
         let sums = self.only_sums(program, heap, first);
         let gains = pays(counts, first.len(), heap.len(), self.workers, sums);
         let each = if gains { steps_of_each(counts) } else { 0 };
-        self.tables
-            .note_steps(first, each, leads_of(counts), counts.ran);
+        self.tables.note_steps(first, each, counts);
         each
     }
 
     /// Whether a list begins with a round since there are few objects, so that it costs what it touches; unless those before it weren't worth
-    /// one, or enough of it was tried, and gains nothing.
+    /// one, a large object would be copied for it, or enough of it was tried, and gains nothing.
     fn few_begin(&mut self, program: &Coded<'_>, heap: &Heap, first: &[Op], left: u64) -> bool {
         if first.len() < 2 || heap.len() >= FEW_OBJECTS || self.habit.goes_alone(first.len()) {
+            return false;
+        }
+        if some_large(heap, first) {
             return false;
         }
         if all_brief(self.alloc, program.program(), &mut self.tables.known, first) {
             return true;
         }
         let each = self.steps_by_rounds(program, heap, first, left);
-        each > 0 || (!has_large_objects(heap) && !self.tables.never_gains(first[0].op))
+        each > 0 || !self.tables.never_gains(first[0].op)
     }
 
     /// How a list is run.
@@ -227,6 +221,18 @@ impl Schedule {
         let share = all / (self.workers as usize).max(1);
         Treatment::Rounds {
             each: share.saturating_add(share / 4),
+        }
+    }
+
+    /// What the rounds of a list are expected to meet.
+    pub fn expected(&self, first: &[Op]) -> Expected {
+        self.tables.expected(self.workers, first)
+    }
+
+    /// Notes whether the rounds of a list met no more than was expected: else it is believed that lists that begin alike gain nothing.
+    pub fn note_rounds(&mut self, first: &[Op], as_expected: bool) {
+        if !as_expected {
+            self.tables.note_loss(first);
         }
     }
 

@@ -1,8 +1,10 @@
 //! What is known of a program and of its lists: of each operation and each marked loop, learned once. No clause speaks of it.
 
-use crate::judging::is_worth;
+use crate::back::{Expected, is_light_sum, step_of};
+use crate::judging::{is_worth, leads_of};
 use crate::policy::{FIRST_STEPS, SEEN, SHORT};
 use crate::reaches::{is_light, is_long, is_small, reach_of, reach_of_all, unknown_reach};
+use crate::sampling::Counts;
 use crate::texts::{add_calls, calls_told, marked_loops, site_of};
 use crate::weights::{Known, Reach, UNTOLD, weights_of};
 use ca_parallel::{Marks, Op};
@@ -41,7 +43,8 @@ impl Tables {
             self.known = known;
         }
         'operations: for op in marks.ops.as_slice() {
-            let _asked = reach_of(alloc, program, &mut self.known, *op);
+            let reach = reach_of(alloc, program, &mut self.known, *op);
+            self.note_plain(*op, is_light(reach, false) || is_long(reach));
         }
         let found = marked_loops(alloc, program, marks);
         'loops: for at in 0..found.len() {
@@ -50,6 +53,15 @@ impl Tables {
                 let of = self.loop_of(alloc, program, s);
                 self.keep(site, of);
             }
+        }
+    }
+
+    /// Notes whether a call of an operation runs in order by its text.
+    fn note_plain(&mut self, op: OpId, plain: bool) {
+        let number = op.0 as usize;
+        if number < self.known.len() {
+            let item = &mut self.known[number];
+            item.plain = plain;
         }
     }
 
@@ -99,10 +111,10 @@ impl Tables {
     }
 
     /// What is known of an operation.
-    fn known_op(&self, op: OpId) -> Option<Known> {
+    fn known_op(&self, op: OpId) -> Option<&Known> {
         let number = op.0 as usize;
         if number < self.known.len() {
-            Some(self.known[number])
+            Some(&self.known[number])
         } else {
             None
         }
@@ -137,10 +149,11 @@ impl Tables {
         let Some(item) = self.known_op(op) else {
             return false;
         };
+        if item.plain {
+            return true;
+        }
         match item.reach {
-            Some(reach) => {
-                is_light(reach, false) || is_long(reach) || self.stays(reach, op, 1, true)
-            }
+            Some(reach) => self.stays(reach, op, 1, true),
             None => false,
         }
     }
@@ -216,8 +229,8 @@ impl Tables {
         }
     }
 
-    /// Notes the steps of each call of a list, to how many operations it leads, and how many were tried.
-    pub fn note_steps(&mut self, first: &[Op], each: u32, leads: u32, ran: u64) {
+    /// Notes the steps of each call of a list, 0 where it gains nothing, and what was counted of those that were tried.
+    pub fn note_steps(&mut self, first: &[Op], each: u32, counts: Counts) {
         if first.len() == 0 {
             return;
         }
@@ -225,8 +238,40 @@ impl Tables {
         if number < self.known.len() {
             let item = &mut self.known[number];
             item.learned.each = Some(each);
-            item.learned.leads = leads;
-            item.learned.tried = item.learned.tried.saturating_add(ran.min(65_536) as u32);
+            item.learned.leads = leads_of(counts);
+            item.learned.step = step_of(counts);
+            item.learned.light = is_light_sum(counts);
+            item.learned.tried = item
+                .learned
+                .tried
+                .saturating_add(counts.ran.min(65_536) as u32);
+        }
+    }
+
+    /// What rounds of a list are expected to meet: nothing is known of one that began though its sample didn't say that it gains.
+    pub fn expected(&self, workers: u32, first: &[Op]) -> Expected {
+        if first.len() == 0 {
+            return Expected::nothing();
+        }
+        let Some(item) = self.known_op(first[0].op) else {
+            return Expected::nothing();
+        };
+        if item.learned.each.unwrap_or(0) == 0 {
+            return Expected::nothing();
+        }
+        Expected::of(workers, item.learned.step, item.learned.light)
+    }
+
+    /// Notes that a list gained nothing though its sample said that it does, or can't be tried: it is believed of all to come.
+    pub fn note_loss(&mut self, first: &[Op]) {
+        if first.len() == 0 {
+            return;
+        }
+        let number = first[0].op.0 as usize;
+        if number < self.known.len() {
+            let item = &mut self.known[number];
+            item.learned.each = Some(0);
+            item.learned.tried = item.learned.tried.max(SEEN);
         }
     }
 

@@ -28,6 +28,8 @@ pub struct Known {
     pub locks: Option<bool>,
     /// What it and all that it leads to are, where it was asked.
     pub reach: Option<Reach>,
+    /// Whether a call of it runs in order by that: it is asked at each marked call that a run goes on into.
+    pub plain: bool,
     /// What the lists told that began with one of it.
     pub learned: Learned,
     /// How many calls the last list of two or more had that began with one of it.
@@ -41,6 +43,9 @@ pub struct Learned {
     pub each: Option<u32>,
     /// To about how many operations each call led that was tried last, with itself.
     pub leads: u32,
+    /// What a step weighed of those that were tried last, and whether an operation weighed less than its task in a round of sums.
+    pub step: u64,
+    pub light: bool,
     /// How many operations were tried in all.
     pub tried: u32,
     /// How many lists came since the last trial, and how many have to come before the next.
@@ -228,6 +233,8 @@ fn nothing_learned() -> Learned {
     Learned {
         each: None,
         leads: 1,
+        step: 0,
+        light: false,
         tried: 0,
         since: 0,
         next: 0,
@@ -268,6 +275,7 @@ fn known_of(stmts: &[Stmt], values: &[u32], further: &[u32]) -> Known {
         loops: told.loops,
         locks: None,
         reach: None,
+        plain: false,
         learned: nothing_learned(),
         count: UNTOLD,
     }

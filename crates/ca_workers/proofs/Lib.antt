@@ -11,6 +11,7 @@ pub mod Beginning
 pub mod Parts
 pub mod Adding
 pub mod Lent
+pub mod Back
 pub mod InHeap
 pub mod Opened
 pub mod Splits

@@ -20,7 +20,7 @@ use crate::tasks::first_tasks;
 use ca_base::{Gate, Memory};
 use ca_model::Heap;
 use ca_parallel::Op;
-use ca_schedule::extent_of_calls;
+use ca_schedule::{Expected, extent_of_calls};
 use ca_sections::Coded;
 use ca_serial::ExtentAnswer;
 use ca_trace::Line;
@@ -60,7 +60,15 @@ impl<'g, G: Gate + Sync> Parallel<'g, G> {
         let extent = extent_of_calls(self.alloc, program, first)?;
         let tasks = first_tasks(self.alloc, first)?;
         self.beside.forget();
-        let rounds = Rounds::new(rt, self.alloc, self.gate, self.workers, program, &extent);
+        let rounds = Rounds::new(
+            rt,
+            self.alloc,
+            self.gate,
+            self.workers,
+            program,
+            &extent,
+            Expected::nothing(),
+        );
         let ended = rounds.tell_rounds(heap, &mut self.beside, tasks, left, lines)?;
         match ended {
             Some(steps) => {

@@ -21,7 +21,7 @@ pub at_work-count-requires-clause-tasks : goal.at_work-count-requires-clause-tas
 at_work-count-requires-clause-tasks g c =
     let from = c.lent_from-from.result in
     let some = some_lent c.args.listed.now from c.most_of-most.result c.newest_of.new.waiting.items c.in_ok-first.first.items c.args.waiting.items c.in_ok-first.ensures.all c.in_ok-first.ensures.some c.lent_from-from.ensures.within c.lent_from-from.ensures.some c.most_of-most.ensures.some c.requires.some in
-    c.as_many.ensures.some (subst (λ (os : List Op). 0 < length os + length c.in_ok-first.first.items) (sym (all_behind c.args.listed.now from)) some)
+    c.as_many-given.ensures.some (subst (λ (os : List Op). 0 < length os + length c.in_ok-first.first.items) (sym (all_behind c.args.listed.now from)) some)
 
 pub round_summed-requires-clause-round : goal.round_summed-requires-clause-round
 round_summed-requires-clause-round g c = λ κs o. is_round (program_view c.args.self.now.program.now) c.args.self.now.extent.now c.args.frozen.now c.requires.setting c.requires.sums
