@@ -14,16 +14,18 @@ BUDGET = "1000000000"
 WORDS = ["valgrind", "--tool=callgrind", "--separate-threads=yes", "--fair-sched=yes"]
 
 
-def can_count():
+def can_count() -> bool:
     return shutil.which("valgrind") is not None
 
 
-def counted(program, workers, text):
+def counted(program: str, workers: int, text: str) -> tuple[int, int]:
     """The instructions of all threads of a run by so many workers, and those of the first."""
     with tempfile.TemporaryDirectory() as folder:
         out = os.path.join(folder, "counts")
         words = [*WORDS, f"--callgrind-out-file={out}", program, "run", str(workers), BUDGET]
-        done = subprocess.run(words, input=text.encode(), stdout=subprocess.DEVNULL, stderr=subprocess.PIPE, check=False)
+        done = subprocess.run(
+            words, input=text.encode(), stdout=subprocess.DEVNULL, stderr=subprocess.PIPE, check=False
+        )
         if done.returncode != 0:
             sys.exit(f"valgrind: status {done.returncode}: {done.stderr.decode()[-500:]}")
         files = sorted(pathlib.Path(folder).glob("counts*"))
@@ -32,7 +34,7 @@ def counted(program, workers, text):
     return sum(threads), threads[0]
 
 
-def all_counted(program, runs):
+def all_counted(program: str, runs: list[tuple[int, str]]) -> list[tuple[int, int]]:
     """The counts of these workers and texts in order, as many at a time as there are processors: instructions don't mind other work."""
     with ThreadPoolExecutor(os.cpu_count()) as pool:
         return list(pool.map(lambda run: counted(program, *run), runs))
