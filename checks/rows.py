@@ -596,8 +596,9 @@ def small_text(members):
 
 
 def texts():
-    """All texts of the rows."""
-    shown = [text for text, _ in PAIRS + PLANS + EMITTED] + [path.read_text() for path in SAMPLES.rglob("*.cc")]
+    """All texts of the rows, and the samples but those in C++ that wants a port."""
+    files = [path for path in SAMPLES.rglob("*.cc") if "cxx" not in path.relative_to(SAMPLES).parts]
+    shown = [text for text, _ in PAIRS + PLANS + EMITTED] + [path.read_text() for path in files]
     return shown + [small_text(members) for members, _ in VERDICTS + LIMITS]
 
 
