@@ -29,8 +29,7 @@ template <class Receiver> static bool are_apart(long at, long end, double each, 
 template <int SIZE, class Turn, class Range, class Receiver>
 static bool shared_apart(Worker &w, long &at, long end, const Turn &turn, const Range &range,
                          const Receiver &receiver) {
-  w.tries = false;
-  const Trial trial = is_forced() ? Trial{FORCED_TURN, at} : tried(at, end, 3 * MICROSECOND, range);
+  const Trial trial = first_turns(w, at, end, range);
   at = trial.at;
   if (at >= end) return true;
   const bool is_alone = !pays_threads(Time(trial.each * double(end - at)));
@@ -58,6 +57,6 @@ static void loop_where_apart(Worker &w, long at, long end, const Turn &turn, con
   static unsigned skipped = 0;
   if (skipped == 0 && shared_apart<SIZE>(w, at, end, turn, range, receiver)) return;
   skipped = skipped == 0 ? 63 : skipped - 1;
-  w.tries = true;
+  w.tries = SOME_TURNS;
   marked(w, at, end);
 }

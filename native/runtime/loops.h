@@ -80,7 +80,7 @@ static void outermost(Worker &w, long at, long end, const Turn &turn, const Rang
 template <int SIZE, class Turn, class Range>
 static inline void loop(Worker &w, long at, long end, const Turn &turn, const Range &range) {
   if (at >= end) return;
-  if (RARE(w.tries)) return outermost<SIZE>(w, at, end, turn, range);
+  if (RARE(w.tries != NOTHING)) return outermost<SIZE>(w, at, end, turn, range);
   if (SIZE > 1 && end - at <= SIZE) {
     const Turn own = turn;
     do own(w, at);
@@ -111,19 +111,25 @@ struct Trial {
   long at;
 };
 
-// Runs turns alone, until so much time has passed and what is left looks worth others.
-template <class Range> static inline Trial tried(long at, long end, Time least, const Range &range) {
-  const Time first = now();
+// Runs turns alone, until so much time and so many of them have passed, or LONG_TRIAL, and what is left looks worth
+// others. What the
+// first ones touch isn't near yet, so those that came last say what a turn takes, if it is less.
+const Time LONG_TRIAL = 100 * MICROSECOND;
+template <class Range> static inline Trial tried(long at, long end, Time least, long part, const Range &range) {
   const long from = at;
   long size = 1;
+  Time took = 0;
   double each = 0;
   while (at < end) {
-    long to = end - at > size ? at + size : end;
+    const long to = end - at > size ? at + size : end;
+    const Time begun = now();
     range(at, to);
+    const Time last = now() - begun;
+    took += last;
+    each = std::min(double(last) / double(to - at), double(took) / double(to - from));
     at = to;
-    Time took = now() - first;
-    each = double(took) / double(at - from);
-    if (took >= least && each * double(end - at) >= double(LIGHT)) break;
+    const bool is_known = took >= LONG_TRIAL || (took >= least && at - from > 1 && at - from >= part);
+    if (is_known && each * double(end - at) >= double(LIGHT)) break;
     size = each * 2 * double(size) > 10 * MICROSECOND ? long(10 * MICROSECOND / each) + 1 : size * 2;
   }
   return {each, at};
@@ -181,7 +187,7 @@ static inline bool is_right(Judge &judge, const Trial &trial) {
 template <class Range>
 __attribute__((noinline)) static void doubted(Worker &w, LoopFrame &frame, Judge &judge, const Range &range) {
   close_region();
-  const Trial trial = tried(frame.at, frame.end, 30 * MICROSECOND, range);
+  const Trial trial = tried(frame.at, frame.end, 30 * MICROSECOND, 0, range);
   frame.at = trial.at;
   gave_up = is_right(judge, trial);
   if (!gave_up) open_again();
@@ -194,10 +200,18 @@ __attribute__((noinline)) static void doubted(Worker &w, LoopFrame &frame, Judge
 // What the outermost loop of a region would take alone, by its first turns.
 static double foreseen;
 
+// The first turns of it, run alone.
+template <class Range> static inline Trial first_turns(Worker &w, long at, long end, const Range &range) {
+  const long PARTS = 32, part = w.tries == ONE_PART ? (end - at) / PARTS : 0;
+  w.tries = NOTHING;
+  const Trial trial = is_forced() ? Trial{FORCED_TURN, at} : tried(at, end, 3 * MICROSECOND, part, range);
+  foreseen = trial.each * double(end - at);
+  return trial;
+}
+
 // The turns from `at` on among others, who are let in.
 template <int SIZE, class Turn, class Range>
 static void share_loop(Worker &w, long at, long end, double each, const Turn &turn, const Range &range) {
-  foreseen = each * double(end - at);
   let_in(w);
   LoopFrame frame;
   begin_loop<SIZE>(w, frame, at, end, turn, range);
@@ -215,8 +229,7 @@ static void share_loop(Worker &w, long at, long end, double each, const Turn &tu
 
 template <int SIZE, class Turn, class Range>
 __attribute__((noinline)) static void outermost(Worker &w, long at, long end, const Turn &turn, const Range &range) {
-  w.tries = false;
-  Trial trial = is_forced() ? Trial{FORCED_TURN, at} : tried(at, end, 3 * MICROSECOND, range);
+  const Trial trial = first_turns(w, at, end, range);
   if (trial.at >= end) return;
   if (!pays_threads(Time(trial.each * double(end - trial.at)))) return range(trial.at, end);
   share_loop<SIZE>(w, trial.at, end, trial.each, turn, range);

@@ -1,6 +1,7 @@
 // Not proved: what differs from machine to machine: clocks, the pause of a thread that waits, sleep until a word
 // changes.
 #pragma once
+#include <algorithm>
 #include <atomic>
 #include <cstddef>
 #include <cstdint>

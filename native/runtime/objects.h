@@ -12,7 +12,7 @@ struct Object {
 // By class: told by the program's text.
 extern const std::size_t SIZES[];
 
-const std::size_t PAGE = 4096;
+const std::size_t PAGE = 4096, LARGE_PAGE = std::size_t(1) << 21;
 // Longer ones may lie over a border: there each field says which page it touches.
 const std::size_t LONG_OBJECT = 1024;
 #ifdef HAS_SANITIZER
@@ -40,10 +40,9 @@ static inline void *reserved(std::size_t size, int protection) {
 
 // Large pages behind the first megabytes: one takes a millisecond to be made.
 static inline void prefer_large_pages(char *at, std::size_t size) {
-  const std::size_t LARGE = std::size_t(1) << 21;
-  if (size <= 8 * LARGE) return;
-  char *from = reinterpret_cast<char *>((reinterpret_cast<std::uintptr_t>(at) + 2 * LARGE) & ~(LARGE - 1));
-  madvise(from, size - 3 * LARGE, MADV_HUGEPAGE);
+  if (size <= 8 * LARGE_PAGE) return;
+  char *from = reinterpret_cast<char *>((reinterpret_cast<std::uintptr_t>(at) + 2 * LARGE_PAGE) & ~(LARGE_PAGE - 1));
+  madvise(from, size - 3 * LARGE_PAGE, MADV_HUGEPAGE);
 }
 
 // Addresses alone are reserved, and made usable as objects come, so that a limit on memory counts what is used.

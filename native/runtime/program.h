@@ -13,15 +13,16 @@ const std::size_t LARGE_STACK = std::size_t(1) << 26, SMALL_STACK = LARGE_STACK;
 const std::size_t LARGE_STACK = std::size_t(1) << 30, SMALL_STACK = std::size_t(1) << 26;
 #endif
 
-// How much memory copies have taken, in kilobytes.
+// How much memory copies have taken, in kilobytes: a large page may reach behind the last object.
 static std::size_t copied() {
-  const std::size_t size = pages() * PAGE;
-  unsigned char *const seen = static_cast<unsigned char *>(std::malloc(pages() + 1));
+  const std::size_t whole = std::size_t(space.copied - space.begin), reached = pages() * PAGE + 2 * LARGE_PAGE,
+                    size = reached < whole ? reached : whole;
+  unsigned char *const seen = static_cast<unsigned char *>(std::malloc(size / PAGE + 1));
   std::size_t found = 0;
   for (int i = 1; i < workers && seen != nullptr; i++)
     for (int kind = 0; kind < KINDS; kind++) {
       if (all[i].off[kind] == nullptr || mincore(space.begin + distance(all[i].off[kind]), size, seen) != 0) continue;
-      for (std::size_t page = 0; page < pages(); page++) found += seen[page] & 1;
+      for (std::size_t page = 0; page < size / PAGE; page++) found += seen[page] & 1;
     }
   std::free(seen);
   return found * PAGE / 1024;
@@ -48,8 +49,8 @@ static void whole() {
 static int told_workers() {
   const char *told = std::getenv("COMMUTE_THREADS");
   int count = told == nullptr ? 0 : std::atoi(told);
-  cpu_set_t set;
-  if (count < 1) count = sched_getaffinity(0, sizeof(set), &set) == 0 ? CPU_COUNT(&set) : 1;
+  const int found = find_usable();
+  if (count < 1) count = found;
   return count < 1 ? 1 : count > MOST_WORKERS ? MOST_WORKERS : count;
 }
 
@@ -93,6 +94,8 @@ static void *first(void *) {
 }
 static void run_on_stack(std::size_t) {
   pthread_t thread;
+  pthread_attr_t attributes;
+  prepare(attributes);
   if (pthread_create(&thread, &attributes, first, nullptr) == 0) pthread_join(thread, nullptr);
 }
 #else
@@ -121,8 +124,6 @@ int main() {
   const std::size_t size = has_room && !is_limited ? LARGE_STACK : SMALL_STACK;
   // Of what is left of a limit half is for the stacks of threads.
   const std::size_t part = is_limited ? limit.rlim_cur / 8 / std::size_t(workers) / PAGE * PAGE : size;
-  pthread_attr_init(&attributes);
-  pthread_attr_setstacksize(&attributes, part < PAGE * 64 ? PAGE * 64 : part < size ? part : size);
-  pthread_attr_setguardsize(&attributes, 0);
+  thread_stack = part < PAGE * 64 ? PAGE * 64 : part < size ? part : size;
   run_on_stack(size);
 }

@@ -10,8 +10,9 @@ struct Site {
   const bool begins_with_loop;
   unsigned skip = 0, lights = 0, runs = 0;
   long most = 0; // the turns that were light
-  bool is_alone = false, is_doubted = false;
+  bool is_alone = false;
   unsigned slow = 0;          // how many of the last runs by many seemed slow
+  unsigned due = 0;           // so many of the next runs are alone, to see what that takes
   double alone = 0, many = 0; // what it took: a loop a unit
 #ifdef FORCED
   Forcing forcing;
@@ -62,7 +63,7 @@ static void fold_all(Worker &w) {
 
 enum class Way { ALONE, MANY, GAVE_UP };
 
-static inline void begin_region(Worker &w, bool tries) {
+static inline void begin_region(Worker &w, Tries tries) {
   w.top = &w.root;
   w.root.down = nullptr;
   w.oldest = nullptr;
@@ -79,7 +80,7 @@ static inline void begin_region(Worker &w, bool tries) {
 }
 
 static inline Way end_region(Worker &w) {
-  w.tries = false;
+  w.tries = NOTHING;
   if (!is_open) {
     missed += now() - region_begun;
     w.is_busy.store(false, std::memory_order_relaxed);
@@ -98,7 +99,7 @@ static inline Way end_region(Worker &w) {
   return Way::GAVE_UP;
 }
 
-template <class Many> static Way by_many(const Many &many, bool tries) {
+template <class Many> static Way by_many(const Many &many, Tries tries) {
   begin_region(all[0], tries);
   many(all[0]);
   return end_region(all[0]);
@@ -112,36 +113,41 @@ static inline void is_light(Site &site, long units) {
 
 static inline double each_of(Time took, long units) { return double(took) / double(units < 1 ? 1 : units); }
 
-// Whether a loop seems no faster by many, three times in turn: its first turns promised as much of one alone, or much
-// of the time goes to copies. Of what takes long no run alone is worth it.
-static inline void doubt(Site &site, long units, Time took) {
+// A loop is to be run alone twice where it seems no faster by many three times in turn: its first turns promised as
+// much of one alone, or much of the time goes to copies. So is one of short turns after some runs, whatever it seems:
+// what others wrote is far, which makes its first turns slow, too. Of what takes long no run alone is worth it.
+static inline void doubt(Site &site, unsigned run, long units, Time took) {
+  const Time SHORT_TURN = 200;
+  const unsigned SOME_RUNS = 3;
   site.many = each_of(took, units);
   const bool is_slow = double(took) > 0.9 * foreseen || folded > took / 5;
+  const bool is_short = foreseen < double(SHORT_TURN) * double(units);
   site.slow = is_slow && took < LONG ? site.slow + 1 : 0;
-  site.is_doubted = site.slow == 3;
+  if (site.slow == 3 || (run + 1 == SOME_RUNS && is_short && took < LONG)) site.due = 2;
 }
 
-// Then it is tried alone once, as a whole.
-template <class Alone> static inline void doubted_loop(Site &site, long units, const Alone &alone) {
+// The last of such runs says it: the one before has brought near what others wrote.
+template <class Alone> static inline void run_due(Site &site, long units, const Alone &alone) {
   const Time begun = now();
   alone();
+  if (--site.due > 0) return;
   site.alone = each_of(now() - begun, units);
   site.is_alone = site.alone < site.many;
-  site.is_doubted = false;
   if (site.is_alone) site.slow = 2;
 }
 
 // A loop finds out itself whether it is worth others, and goes back where it isn't; then it is tried each 64th time.
+// After the first time a part of it is tried alone three times, which says better what all of it takes.
 template <class Alone, class Many>
 static void loop_judged(Site &site, long units, const Alone &alone, const Many &many) {
   const unsigned run = site.runs++;
   if (site.is_alone && run % 64 != 0) return alone();
-  if (site.is_doubted) return doubted_loop(site, units, alone);
+  if (site.due > 0) return run_due(site, units, alone);
   const Time begun = now();
-  const Way way = by_many(many, true);
+  const Way way = by_many(many, run >= 1 && run <= 3 ? ONE_PART : SOME_TURNS);
   const Time took = now() - begun;
-  site.is_alone = way == Way::GAVE_UP;
-  if (way == Way::MANY) doubt(site, units, took);
+  if (way == Way::MANY) doubt(site, run, units, took);
+  site.is_alone = way == Way::GAVE_UP || (way == Way::MANY && site.is_alone && site.alone < site.many);
   if (way == Way::ALONE && took < LIGHT)
     is_light(site, units);
   else
@@ -159,7 +165,7 @@ static void recursion_judged(Site &site, long units, const Alone &alone, const M
   if (goes_alone)
     alone();
   else
-    way = by_many(many, false);
+    way = by_many(many, NOTHING);
   const Time took = now() - begun;
   known = known == 0 ? double(took) : (known + double(took)) / 2;
   if (way == Way::ALONE && took < LIGHT)
@@ -176,7 +182,7 @@ template <class Many> static inline bool region_forced([[maybe_unused]] Site &si
   const unsigned long before = all_given();
   site.forcing.begin();
   if (!is_forced()) return false;
-  by_many(many, site.begins_with_loop);
+  by_many(many, site.begins_with_loop ? SOME_TURNS : NOTHING);
   site.forcing.end(now() - begun, all_given() != before);
   return true;
 #else

@@ -1,24 +1,24 @@
 // Not proved: the threads of workers. None begins before a region has proved worth it; who finds nothing for a while
 // sleeps.
 #pragma once
+#include "placing.h"
 #include "workers.h"
 
 // How long who has nothing to do looks for work before it sleeps, or naps where a region is open.
 const Time AWAKE = 200 * MICROSECOND;
-static pthread_attr_t attributes;
 static bool has_begun = false, is_open = false;
 static void *help(void *of);
 
-// Each worker begins the next. Where the machine has no thread more there are as many as there are.
+// Each worker begins the next, on the processor behind its own. Where the machine has no thread more there are as many
+// as there are.
 static void begin_worker(int index) {
-  pthread_t thread;
-  if (index >= workers || pthread_create(&thread, &attributes, help, &all[index]) != 0) return;
-  pthread_detach(thread);
+  if (index < workers && !begin_thread(true, help, &all[index])) begin_thread(false, help, &all[index]);
 }
 
 static void *help(void *of) {
   Worker &w = *static_cast<Worker *>(of);
   begin_worker(w.index + 1);
+  move_freely();
   Time idle = now();
   for (;;) {
     unsigned seen = opened.load(std::memory_order_acquire);

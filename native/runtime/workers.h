@@ -48,6 +48,9 @@ struct Returned {
 // What a worker's word `asking` says beside the number of who asks, which is its index and one.
 enum Asking { NOBODY = 0, IS_CLOSED = -1, IS_TRIED = -2 };
 
+// What is tried alone of the next loop, which is the outermost of a region: some of its turns, or a part of them.
+enum Tries { NOTHING, SOME_TURNS, ONE_PART };
+
 struct alignas(128) Worker {
   char *off[KINDS];     // the distance from a field to this worker's copy, 0: the field itself. As a pointer, which no
                         // update changes
@@ -59,7 +62,7 @@ struct alignas(128) Worker {
   char *highest;
   unsigned long given, taken;
   bool has_copies; // for the fold: whether it took tasks of the region
-  bool tries;      // whether the next loop is the outermost of a region: the first worker's alone
+  Tries tries;     // the first worker's alone
   int index;
   unsigned random;
   Time patience;       // how long it waits for one that it asked

@@ -44,7 +44,9 @@ def test_forced(builds: Builds, name: str) -> None:
 @pytest.mark.parametrize("name", programs.ALL)
 def test_own_forced(builds: Builds, name: str, shares_apart: bool) -> None:
     program = builds.forced(programs.ALL[name], FORCED, shares_apart)
-    assert runs(program, programs.ALL[name]) > 0, "no task was given"
+    given = runs(program, programs.ALL[name])
+    # (Nothing else is shared of a program whose loops are all over different objects.)
+    assert given > 0 or (name in programs.UNMARKED and not shares_apart), "no task was given"
 
 
 @pytest.mark.parametrize("name", [*dict(samples()), *programs.ALL])

@@ -126,15 +126,28 @@ LOOPS = {
 }
 
 
+ASKING_LOOPS = {
+    "cell[i]->fold(by + i);": True,
+    "cell[i]->deepen(by * i);": True,
+    "cell[i]->take(by + i);": False,
+    "cell[i]->look(by + i);": False,
+    "cell[i]->rise(by + i);": True,
+    "cell[i]->cut(by + i);": False,
+    "cell[by]->fold(by * i);": False,
+}
+
+
 @pytest.mark.usefixtures("program")
-@pytest.mark.parametrize("text", LOOPS)
-def test_loops_over_different_objects(text: str) -> None:
-    """Only those whose turns have one receiver, and read nothing that the loop writes."""
-    marked = emitted(programs.APART)
+@pytest.mark.parametrize(
+    "text,source", [*((one, programs.APART) for one in LOOPS), *((one, programs.ASKING) for one in ASKING_LOOPS)]
+)
+def test_loops_over_different_objects(text: str, source: str) -> None:
+    """Only those whose turns have one receiver, and read nothing of others that the loop writes."""
+    marked = emitted(source)
     found = read(marked)
     lines = marked.split("\n")
     chosen = [text_of(it, lines) for it in apart(found, pairs_of(marked))]
-    assert any(squeezed(text) in each for each in chosen) == LOOPS[text]
+    assert any(squeezed(text) in each for each in chosen) == {**LOOPS, **ASKING_LOOPS}[text]
 
 
 def text_of(it: For, lines: list[str]) -> str:

@@ -3,15 +3,18 @@ commute with themselves.
 
 What `pairs` says of a loop tells that its operations are separable: they read no field of another object that the loop
 writes, make no object and print nothing. That they call nothing, and that the loop's own expressions read nothing that
-is written, is found here."""
+is written, is found here; and where they ask value methods for what they write, that this is of their own object."""
 
 from __future__ import annotations
 
 from .kinds import Extent, closure
-from .tree import Expression, For, Foreign, Own, Program, all_inside, asked, calls, counted, expressions, within
+from .tree import Asked, Binary, Expression, For, Foreign, Method, New, Number, Own, Print, Program, This, all_inside
+from .tree import asked, calls, counted, expressions, inside, within
 
 # Why calls on one object may not commute, though each of them is separable.
 ALLOWED = ("FieldDiffers", "DemandsDiffer", "Large", "LoopForm")
+# An operation isn't separable since it asks a value method for what is written; what else it does isn't told then.
+ASKED = "FunctionRead"
 
 
 def candidates(program: Program) -> list[tuple[For, str]]:
@@ -26,9 +29,12 @@ def candidates(program: Program) -> list[tuple[For, str]]:
 
 
 def may_be_apart(it: For, owner: str, program: Program) -> bool:
-    called = calls(it.body)
+    called, found = calls(it.body), counted(it)
     others = [each for each in within(it.body) if expressions(each) and each not in called]
-    if counted(it) is None or not called or others or any(call.receiver != called[0].receiver for call in called):
+    if found is None or not called or others or any(call.receiver != called[0].receiver for call in called):
+        return False
+    if found[0] not in inside(called[0].receiver):
+        # All turns have the same object.
         return False
     methods = [program.called(call, owner) for call in called]
     return not any(calls(method.body) for method in methods) and reads_constants(it, owner, Extent(program, methods))
@@ -49,13 +55,60 @@ def reads_written(it: Expression, owner: str, extent: Extent) -> bool:
     return isinstance(it, Foreign) and (extent.program.class_of(it.of, owner), it.name) in extent.written
 
 
+def reads_itself(it: For, owner: str, program: Program) -> bool:
+    """Whether all that the operations read and is written is of their own objects, also where they ask value methods;
+    and they make nothing, print nothing and divide by nothing that may be 0."""
+    extent = Extent(program, [program.called(call, owner) for call in calls(it.body)])
+    return all(does_nothing_else(method) and asks_itself(method, extent, set()) for method in extent.members)
+
+
+def does_nothing_else(method: Method) -> bool:
+    prints = any(isinstance(one, Print) for one in within(method.body))
+    return not prints and not any(isinstance(part, New) or divides(part) for part in all_inside(method.body))
+
+
+def divides(it: Expression) -> bool:
+    """By something other than a number that is written there, and isn't 0."""
+    if not isinstance(it, Binary) or it.operator not in ("/", "%"):
+        return False
+    return not isinstance(it.right, Number) or int(it.right.digits) == 0
+
+
+def asks_itself(method: Method, extent: Extent, seen: set[str]) -> bool:
+    """Whether a method, and what it asks its own object for, reads no field of others that is written; `seen` are those
+    that are looked at."""
+    if repr(method) in seen:
+        return True
+    seen.add(repr(method))
+    for part in all_inside(method.body):
+        if isinstance(part, Foreign) and reads_written(part, method.owner, extent):
+            return False
+        if isinstance(part, Asked):
+            value = extent.program.called(part, method.owner)
+            is_right = (
+                asks_itself(value, extent, seen) if isinstance(part.receiver, This) else reads_none(value, extent)
+            )
+            if not is_right:
+                return False
+    return True
+
+
+def reads_none(value: Method, extent: Extent) -> bool:
+    """Whether a value method of any object, and all that it asks, reads nothing that is written."""
+    led = closure([value], lambda each: asked(each.body, each.owner, extent.program))
+    return not any(reads_written(part, each.owner, extent) for each in led for part in all_inside(each.body))
+
+
 def apart(program: Program, pairs: str) -> list[For]:
     """Those of the candidates of which `pairs`, asked of the text that was read, refuses no operation as not
-    separable."""
-    separable = {
-        line for line, reasons in loops(pairs).items() if reasons and all(reason in ALLOWED for reason in reasons)
-    }
-    return [it for it, _ in candidates(program) if it.line in separable]
+    separable, or only since it asks for what is its own."""
+    found, reasons = [], loops(pairs)
+    for it, owner in candidates(program):
+        mine = reasons.get(it.line, [])
+        is_separable = bool(mine) and all(reason in (*ALLOWED, ASKED) for reason in mine)
+        if is_separable and (ASKED not in mine or reads_itself(it, owner, program)):
+            found.append(it)
+    return found
 
 
 def loops(pairs: str) -> dict[int, list[str]]:
@@ -69,5 +122,5 @@ def loops(pairs: str) -> dict[int, list[str]]:
             if words[0] == "loop":
                 found[int(words[1])] = now
         elif words[2] == "unproved":
-            now.append(words[3])
+            now.append(words[-1] if words[3] == "NotSeparable" else words[3])
     return found

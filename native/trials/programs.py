@@ -5,7 +5,7 @@ KINDS = """
 class Cell {
 public:
   long sum, product, greatest, least, all, any, odd, same, times, left, right;
-  bool seen;
+  bool seen, seen_last;
   long items[9];
   void start(long n) { product = 1; all = 0 - 1; left = n; right = 0 - n; greatest = 0 - 9223372036854775807 - 1; least = 9223372036854775807; }
   void take(long v) {
@@ -27,6 +27,14 @@ public:
     long t = left;
     left = right;
     right = t;
+  }
+  void narrow(long v) {
+    all = all & 0 - 1099511627777;
+    greatest = max(greatest, 0 - 100 - v);
+    if (!seen_last) {
+      seen_last = true;
+      times += 1;
+    }
   }
 };
 class Cells {
@@ -50,6 +58,7 @@ int main() {
   }
   for (long i = 0; i < 4001; i++) c->at[i * i % 7]->swap();
   for (long i = 0; i < 4001; i++) c->at[5]->take(i);
+  for (long i = 0; i < 60; i++) c->at[i]->narrow(i);
 }
 """
 
@@ -377,6 +386,58 @@ int main() {
 }
 """
 
+# Loops over different objects, which ask value methods for what they write: of their own object, and of others.
+ASKING = """
+class Cell {
+public:
+  long at[8];
+  long number, total;
+  Cell *next;
+  void start(long n, Cell *other) { number = n; next = other; }
+  long sum() {
+    long s = 0;
+    for (long k = 0; k < 8; k++) s = s * 3 + at[k];
+    return s;
+  }
+  long least() { return min(sum(), total) + number; }
+  long beside() { return next->at[0]; }
+  long above() { return next->number; }
+  void fold(long by) {
+    total = total * 5 + sum() + by;
+    at[by % 8] = total % 1000;
+  }
+  void deepen(long by) {
+    for (long k = 1; k < 8; k++) at[k] = at[k - 1] + least() % 100 + by;
+  }
+  void take(long by) { at[1] = at[1] * 2 + beside() + by; }
+  void look(long by) { at[0] = at[0] * 2 + next->sum() + by; }
+  void rise(long by) { total = total * 3 + next->above() + sum() + by; }
+  void cut(long by) { total = (total + sum()) / (by % 7 + 1); }
+};
+class Cells {
+public:
+  Cell *cell[500];
+  void make() {
+    for (long i = 0; i < 500; i++) cell[i] = new Cell();
+    for (long i = 0; i < 500; i++) cell[i]->start(i, cell[(i + 1) % 500]);
+  }
+  void all(long by) {
+    for (long i = 0; i < 500; i++) cell[i]->fold(by + i);
+    for (long i = 0; i < 500; i++) cell[i]->deepen(by * i);
+    for (long i = 0; i < 500; i++) cell[i]->take(by + i);
+    for (long i = 0; i < 500; i++) cell[i]->look(by + i);
+    for (long i = 0; i < 500; i++) cell[i]->rise(by + i);
+    for (long i = 0; i < 500; i++) cell[i]->cut(by + i);
+    for (long i = 0; i < 500; i++) cell[by]->fold(by * i);
+  }
+};
+int main() {
+  Cells *c = new Cells();
+  c->make();
+  for (long k = 0; k < 40; k++) c->all(k);
+}
+"""
+
 # Value methods that go in step, which become one function, and some that don't.
 STEPS = """
 class Body {
@@ -473,5 +534,9 @@ ALL = {
     "loops": LOOPS,
     "arguments": ARGUMENTS,
     "apart": APART,
+    "asking": ASKING,
     "steps": STEPS,
 }
+
+# Those of which nothing is marked: they are shared only where objects turn out to be different.
+UNMARKED = {"apart", "asking"}
