@@ -30,11 +30,12 @@ def _lines(cell: str) -> frozenset[int]:
     return frozenset(found)
 
 
-def programs(later: bool = False, page: Path = TESTS / "phases.md") -> list[Known]:
-    """The twenty programs of the page, or those that were written later; the count that it tells of each is checked."""
+def programs(table: int = 0, page: Path = TESTS / "phases.md") -> list[Known]:
+    """The programs of a table of the page: the twenty, those that were written later (1), those after these (2). The count that it tells of
+    each is checked."""
     found = []
     tables = page.read_text(encoding="utf-8").split("\n## ")
-    for line in tables[int(later)].splitlines():
+    for line in tables[table].splitlines():
         cells = [one.strip() for one in line.strip("|").split("|")]
         if len(cells) != 5 or not cells[2].isdigit() or not cells[0]:
             continue

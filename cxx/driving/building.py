@@ -2,6 +2,7 @@
 programs of it."""
 
 import os
+import re
 import shutil
 import subprocess
 import sys
@@ -9,6 +10,9 @@ import tempfile
 from dataclasses import dataclass
 
 from porting import form
+from porting.clang import INCLUDE
+from porting.limits import LIMITS
+from porting.places import NOWHERE
 from porting.port import Ported
 
 from translator import Compiler, Options, pairs_of, read, tree, written
@@ -17,6 +21,7 @@ from translator.building import asked
 
 from . import prints
 
+LIMIT = re.compile(r"limit (?P<line>\d+):\d+ (?P<code>E\d+)")
 RUNTIME = os.path.join(os.path.dirname(os.path.abspath(__file__)), "runtime")
 # How long a worker waits for others to ask, where sharing is forced, in pauses and microseconds.
 FORCED = "-DFORCED=300"
@@ -58,8 +63,22 @@ class Marked:
 def marked(ported: Ported) -> Marked:
     status, text = asked("emit", str(ported.text).encode())
     if status != 0:
-        raise Unbuilt(f"the ported text isn't accepted ({text.strip() or status})")
+        raise Unbuilt(_not_accepted(ported, text.strip() or f"status {status}"))
     return Marked(ported, text, pairs_of(text))
+
+
+def _not_accepted(ported: Ported, told: str) -> str:
+    """A limit of the language in the user's words, at his place where it has one; else what was told."""
+    found = LIMIT.match(told)
+    if found is None or found["code"] not in LIMITS:
+        return f"the ported text isn't accepted ({told})"
+    at = int(found["line"]) - 1
+    place = ported.text.places[at] if at < len(ported.text.places) else NOWHERE
+    return (
+        f"{place}: {LIMITS[found['code']]}"
+        if place.line and not place.file.startswith(INCLUDE)
+        else LIMITS[found["code"]]
+    )
 
 
 def unit(it: Marked, program: tree.Program, options: Options, heads: list[str] | None = None) -> str:
@@ -71,7 +90,22 @@ def unit(it: Marked, program: tree.Program, options: Options, heads: list[str] |
 
 def counted_lines(ported: Ported) -> list[int]:
     """The lines of the ported text that begin a `for`, in their order, which is that of the loops in a tree of it."""
-    return [line for line, one in enumerate(ported.text.statements, 1) if isinstance(one, form.Count)]
+    return _begun(ported, "for (", form.Count)
+
+
+def uncounted_lines(ported: Ported) -> list[int]:
+    """The same of each `while`."""
+    return _begun(ported, "while (", form.Loop)
+
+
+def _begun(ported: Ported, word: str, kind: type[form.Count] | type[form.Loop]) -> list[int]:
+    """Lines that begin with the word; 0 for those of the text's own functions, which stand for no statement."""
+    text = ported.text
+    return [
+        line if isinstance(one, kind) else 0
+        for line, (words, one) in enumerate(zip(text.lines, text.statements), 1)
+        if words.lstrip().startswith(word)
+    ]
 
 
 def apart_lines(it: Marked) -> set[int]:

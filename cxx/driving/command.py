@@ -85,11 +85,12 @@ def attempted(said: Words, outcome: Outcome, folder: str, progress: Progress) ->
         os.replace(said.out + ".new", said.out)
         outcome.is_parallel = True
     except Unported as unported:
-        outcome.refused = unported.lines
-        place, what = remarks.placed("", unported.lines[0])
-        outcome.why = (
-            f"{place}: " if place else ""
-        ) + f"not understood: {what.removeprefix('fatal ').removeprefix('error: ')}"
+        outcome.why = unported.lines[0]
+        if not unported.missing:
+            outcome.refused = unported.lines
+            place, what = remarks.placed("", unported.lines[0])
+            said_so = f"not understood: {what.removeprefix('fatal ').removeprefix('error: ')}"
+            outcome.why = f"{place}: {said_so}" if place else said_so
     except (Kept, Useless, Unbuilt, runs.Endless) as kept:
         outcome.why = str(kept)
     except Differs as differs:
@@ -222,33 +223,37 @@ def judge(said: Words, outcome: Outcome, wanted: runs.Run, built: tuple[str, str
 
 
 def tell(said: Words, outcome: Outcome) -> None:
-    """What is said on standard error and output, and the report."""
-    file = said.sources[0]
-    if outcome.is_parallel:
-        judgement = outcome.judgement
-        speed = (
-            "not checked"
-            if judgement is None
-            else f"{judgement.times(outcome.threads):.2f} times as fast by {outcome.threads} threads"
-            if judgement.ratios
-            else "not timed"
-        )
-        what = outcome.found.summary() if outcome.found.parallel() else "parts of its loops, or calls of functions that only compute"
-        remarks.remark(file, f"built to run in parallel: {what}; {speed}")
-    else:
-        place, what = remarks.placed(file, outcome.why)
-        more = (
-            f" (and {len(outcome.refused) - 1} more: --remarks)"
-            if len(outcome.refused) > 1 and not said.remarks
-            else ""
-        )
-        remarks.remark(place, f"compiled as it is: {what}{more}")
-    if said.remarks:
-        for line in outcome.refused[1:]:
-            remarks.remark(*remarks.placed(file, line))
+    """The report, what is said on standard output, and remarks, the last of which says what came of it."""
     about = lines.About(
         said.sources, outcome.is_parallel, outcome.why, outcome.found, outcome.judgement, outcome.threads
     )
     about.rewrites = outcome.shaped.rewrites if outcome.shaped is not None else []
     about.refused = outcome.refused
     reports.give(said, about)
+    file = said.sources[0]
+    if said.remarks:
+        for line in outcome.refused[1:]:
+            remarks.remark(*remarks.placed(file, line))
+    if outcome.is_parallel:
+        remarks.remark(file, f"built to run in parallel: {parts(outcome)}; {speed(outcome)}")
+        return
+    place, what = remarks.placed(file, outcome.why)
+    others = len(outcome.refused) - 1
+    more = f" (and {others} more: --remarks)" if others > 0 and not said.remarks else ""
+    remarks.remark(place, f"compiled as it is: {what}{more}")
+
+
+def parts(outcome: Outcome) -> str:
+    """What of the program runs in parallel."""
+    if outcome.found.parallel():
+        return outcome.found.summary()
+    return "parts of its loops, or calls of functions that only compute"
+
+
+def speed(outcome: Outcome) -> str:
+    judgement = outcome.judgement
+    if judgement is None:
+        return "not checked"
+    if not judgement.ratios:
+        return "not timed"
+    return f"{judgement.times(outcome.threads):.2f} times as fast by {outcome.threads} threads"

@@ -4,12 +4,12 @@ from dataclasses import dataclass, field
 
 from porting.places import Place
 
-from .findings import MIXED, SHARED, WITHIN, Finding, Findings
+from .findings import Finding, Findings
 from .judging import Judgement, threads
 
 PROVED = "Proved: that the marked calls of the ported text may run in any order. Checked by running: the rest."
 RANKED = (
-    "Reasons are ranked: first what no order can mend (it prints, it makes objects), then what stands within the loop "
+    "Reasons are ranked: first what no order can mend (it prints, it makes objects, each call goes on from the one before it), then what stands within the loop "
     "or function itself, then what stands elsewhere, then what has no line."
 )
 
@@ -71,9 +71,9 @@ def shown_share(one: Finding) -> str:
     return f", {percent(one.share)} of the run, begun {times}"
 
 
-def of(one: Finding) -> list[str]:
+def of(one: Finding, found: Findings) -> list[str]:
     lines = [f"{one.place}: {one.what}: {one.state}{shown_share(one)}"]
-    if one.state not in (*SHARED, MIXED, WITHIN) and one.reasons:
+    if found.says_why(one):
         lines.append(f"    because: {one.reasons[0].said}")
         if one.reasons[0].mended:
             lines.append(f"    change:  {one.reasons[0].mended}")
@@ -83,7 +83,7 @@ def of(one: Finding) -> list[str]:
 def report(about: About) -> list[str]:
     """The lines of the text."""
     head = [f"{about.title()}", about.given(), about.checks(), about.speeds(), PROVED]
-    body = [line for one in about.found.all for line in of(one)]
+    body = [line for one in about.found.all for line in of(one, about.found)]
     rewrites = [f"{place}: rewritten for the analysis: {what}" for place, what in about.rewrites]
     return [line for line in head if line] + [""] + body + rewrites
 
@@ -98,7 +98,7 @@ def why(found: Findings, line: int, kept: str) -> list[str]:
         return [f"no loop and no recursion is known at line {line}" + (f": {kept}" if kept else "")]
     lines: list[str] = []
     for one in at:
-        lines += of(one)[:1]
+        lines += of(one, found)[:1]
         for number, reason in enumerate(one.reasons, 1):
             lines.append(f"    {number}. {reason.said}")
             if reason.mended:

@@ -4,8 +4,8 @@ colours alone."""
 import os
 from html import escape
 
-from . import lines
-from .findings import APART, MIXED, PARALLEL, SHARED, WITHIN, Finding, Pair
+from . import lines, remarks
+from .findings import APART, MIXED, PARALLEL, WITHIN, Finding, Pair
 from .judging import threads
 from .lines import About, percent
 from .ranges import Ranges, texts_of
@@ -18,6 +18,8 @@ MOST_FUNCTIONS = 12
 LEAST_SHARE = 0.004
 # Below these its piece has no label.
 LABELLED = 0.08
+# What may be wider than the window is moved by keys, too.
+WIDE = ' tabindex="0" role="region" aria-label="{}"'
 
 
 def state(one: Finding) -> str:
@@ -77,8 +79,9 @@ class Page:
             )
             made += self.bar(shares, whole)
         made += self.speeds()
-        made.append(f'<p class="soft">{lines.PROVED} A share has the calls inside in it. {lines.RANKED}</p></header>')
-        return made
+        if about.found.all:
+            made.append(f'<p class="soft">{lines.PROVED} A share has the calls inside in it. {lines.RANKED}</p>')
+        return [*made, "</header>"]
 
     def speeds(self) -> list[str]:
         """What was measured, as a table."""
@@ -89,7 +92,7 @@ class Page:
         times = "".join(f"<td>{judgement.times(count):.2f}</td>" for count in judgement.walls)
         walls = "".join(f"<td>{wall:.3f} s</td>" for wall in judgement.walls.values())
         return [
-            f'<div class="scroll"><table><thead><tr><td></td>{heads}</tr></thead><tbody>',
+            f'<div class="scroll"{WIDE.format("Times")}><table><thead><tr><td></td>{heads}</tr></thead><tbody>',
             f'<tr><th scope="row">it takes (that of g++ {judgement.own:.3f} s)</th>{walls}</tr>',
             f'<tr><th scope="row">times as fast as that of g++</th>{times}</tr></tbody></table></div>',
         ]
@@ -121,7 +124,7 @@ class Page:
         why = {
             (where[1]): one
             for one in self.about.found.all
-            if (where := one.conflict()) and where[0] == file and state(one) == "ser"
+            if (where := one.conflict()) and where[0] == file and self.about.found.says_why(one)
         }
         made = [f"<h2>{escape(file)}</h2><ol>"]
         for number, line in enumerate(self.texts[file].split("\n"), 1):
@@ -151,10 +154,13 @@ class Page:
     # ------------------------------------------------------------------------------------------------
 
     def cards(self) -> list[str]:
-        ones = sorted(self.about.found.all, key=lambda one: -(one.share or 0))
-        made = ["<h2>Loops and recursions, by their share of the run</h2>"]
+        ones = self.about.found.by_share()
+        made = ["<h2>Loops and recursions, by their share of the run</h2>" if ones else "<h2>Loops and recursions</h2>"]
+        if any(one.share is not None for one in ones):
+            made.append('<p class="soft">Of those with about the same share loops over objects come first.</p>')
         if not ones:
             made.append(f"<p>{escape(self.about.found.summary())}.</p>")
+        made += self.refused()
         for one in ones:
             made += self.card(one)
         if self.about.rewrites:
@@ -162,6 +168,19 @@ class Page:
             made += [f"<li>{escape(str(place))}: {escape(what)}</li>" for place, what in self.about.rewrites]
             made.append("</ul>")
         return made
+
+    def refused(self) -> list[str]:
+        """All that isn't understood, each with a way to its line."""
+        if not self.about.refused:
+            return []
+        made = ["<h2>Not understood</h2><ul>"]
+        for line in self.about.refused:
+            place, what = remarks.placed("", line)
+            file, _, numbers = place.partition(":")
+            at = numbers.partition(":")[0]
+            shown = f'<a href="#{self.line(file, int(at))}">{escape(place)}</a>: ' if at else ""
+            made.append(f"<li>{shown}{escape(what)}</li>")
+        return [*made, "</ul>"]
 
     def card(self, one: Finding) -> list[str]:
         number, place = self.numbers[id(one)], one.place
@@ -176,13 +195,15 @@ class Page:
         shown = lines.shown_share(one).lstrip(", ")
         made.append(f"<p><code>{escape(code)}</code></p>" + (f'<p class="soft">{shown}</p>' if shown else ""))
         if one.state == MIXED:
+            part = self.about.found.shared_part(one)
+            known = "" if part is None else f" ({percent(part)} of it)"
             made.append(
                 '<p class="soft">Its iterations come one after the other; '
-                "what is parallel inside runs in parallel within each.</p>"
+                f"what is parallel inside{known} runs in parallel within each.</p>"
             )
         elif one.state == WITHIN:
             made.append('<p class="soft">It is a part of what runs in parallel, each time by one thread.</p>')
-        elif one.state not in SHARED and one.reasons:
+        if self.about.found.says_why(one):
             made += self.reason(one)
         return [*made, *self.matrix(one), "</section>"]
 
@@ -204,7 +225,7 @@ class Page:
         pairs = {key: pair for pair in one.pairs for key in ((pair.one, pair.other), (pair.other, pair.one))}
         free = sum(pair.reason is None for pair in one.pairs)
         made = [f"<details><summary>{free} of {len(one.pairs)} pairs of functions may change places</summary>"]
-        made.append('<div class="scroll"><table><thead><tr><td></td>')
+        made.append(f'<div class="scroll"{WIDE.format("Pairs of functions")}><table><thead><tr><td></td>')
         made += [f'<th scope="col">{number}</th>' for number in range(1, len(names) + 1)]
         made.append("</tr></thead><tbody>")
         for number, name in enumerate(names, 1):

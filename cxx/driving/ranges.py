@@ -3,7 +3,7 @@ in which."""
 
 import re
 
-from porting.reasons import Reason
+from porting.reasons import PASSED_ON, Reason
 
 from .findings import AT, Finding, Findings
 
@@ -55,8 +55,9 @@ class Ranges:
 
 
 def rank(found: Findings, texts: dict[str, str]) -> None:
-    """Sorts reasons so that the first says most: what no order can mend, then what stands within the loop or function
-    itself, then what has another place, then the rest. Those alike stay as they are."""
+    """Sorts reasons so that the first says most: what no order can mend (it prints, it makes objects, each call goes on
+    from the one before it), then what stands within the loop or function itself, then what has another place, then the
+    rest. Those alike stay as they are."""
     for file, text in texts.items():
         ranges = Ranges(text, file, found)
         for one in ranges.mine:
@@ -65,6 +66,8 @@ def rank(found: Findings, texts: dict[str, str]) -> None:
 
 def _rank(reason: Reason, file: str, first: int, last: int) -> int:
     place = AT.search(reason.said)
+    if PASSED_ON in reason.said:
+        return 0
     if place is None:
         return 3
     is_within = place["file"] == file and first <= int(place["line"]) <= last

@@ -12,15 +12,15 @@ from .words import Words
 
 
 def give(said: Words, about: About) -> None:
-    if said.remarks:
-        for one in about.found.all:
-            remarks.remark(str(one.place), one.sentence())
+    if said.report:
+        _write(said.report, text(about, said.report.endswith((".html", ".htm"))))
     if said.why:
         print("\n".join(lines.why(about.found, said.why, about.why)))
     if said.json:
         print(json.dumps(value(about), indent=2, ensure_ascii=False))
-    if said.report:
-        _write(said.report, text(about, said.report.endswith((".html", ".htm"))))
+    if said.remarks:
+        for one in about.found.all:
+            remarks.remark(str(one.place), one.sentence(about.found.says_why(one)))
 
 
 def text(about: About, is_page: bool) -> str:

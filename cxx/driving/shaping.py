@@ -12,6 +12,8 @@ from porting.shaping.marks import finished
 from porting.shaping.search import searched
 from porting.text import Text
 
+from . import different
+
 
 @dataclass
 class Shaped:
@@ -39,5 +41,7 @@ def plain(porter: Porter) -> Shaped:
 def shaped(porter: Porter) -> Shaped:
     """The port in the best shape that is found."""
     program, sites = porter.lowered({})
-    done, text, stops = finished(searched(program))
-    return Shaped(Ported(porter.files, done.program, text, sites, stops), done.told, done.loops)
+    found = searched(program, around=lambda shape: different.shared_as_they_are(shape, porter.files, sites))
+    done, text, stops = finished(different.Turning(found, porter.files, sites).all())
+    ported = Ported(porter.files, done.program, text, sites, stops)
+    return Shaped(ported, done.told, done.loops)

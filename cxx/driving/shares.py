@@ -4,8 +4,6 @@ them."""
 import os
 import re
 
-from porting import form
-
 from translator import Options, tree
 
 from . import building
@@ -78,8 +76,7 @@ def clocked(clocks: Clocks) -> list[str]:
 def measured(it: building.Marked, found: Findings, folder: str, how: Runner) -> None:
     """Sets the shares of what was found; where they can't be had they stay unknown."""
     program = it.program()
-    counted = building.counted_lines(it.ported)
-    uncounted = [line for line, one in enumerate(it.ported.text.statements, 1) if isinstance(one, form.Loop)]
+    counted, uncounted = building.counted_lines(it.ported), building.uncounted_lines(it.ported)
     clocks = Clocks(program, counted, uncounted, heads_of(found))
     take(building.unit(it, program, Options(is_plain=True), clocked(clocks)), clocks, found, folder, how)
 

@@ -8,7 +8,7 @@ STYLE = """
 *{box-sizing:border-box}
 body{margin:0;background:var(--back);color:var(--text);font:15px/1.5 system-ui,sans-serif}
 a{color:var(--link)}
-a:focus-visible,summary:focus-visible,.code:focus-visible{outline:3px solid var(--link);outline-offset:2px}
+a:focus-visible,summary:focus-visible,[tabindex]:focus-visible{outline:3px solid var(--link);outline-offset:2px}
 .skip{position:absolute;left:-999px}
 .skip:focus{left:8px;top:8px;background:var(--back);padding:4px 10px;z-index:2}
 header{padding:16px 22px;border-bottom:1px solid var(--line)}
@@ -16,6 +16,7 @@ h1{font-size:20px;margin:0 0 6px}
 h2{font-size:16px;margin:14px 0 6px}
 h3{font-size:15px;margin:0}
 p{margin:4px 0}
+h1,h2,h3,p,aside li{overflow-wrap:anywhere}
 .soft{color:var(--soft);font-size:13px}
 .bar{display:flex;height:22px;max-width:900px;margin:10px 0 4px;border:1px solid var(--line);border-radius:4px;overflow:hidden}
 .bar span{font-size:12px;line-height:20px;text-align:center;overflow:hidden;white-space:nowrap;color:var(--text);border-right:1px solid var(--line)}
@@ -48,8 +49,8 @@ aside{padding:8px 18px 30px}
 :target{outline:2px solid var(--link)}
 .scroll{overflow-x:auto}
 table{border-collapse:collapse;font-size:12px;margin:6px 0}
-td,th{border:1px solid var(--line);padding:1px 6px;text-align:center;font-weight:normal}
-tbody th{text-align:left;white-space:nowrap}
+td,th{border:1px solid var(--line);padding:1px 6px;text-align:center;font-weight:normal;white-space:nowrap}
+tbody th{text-align:left}
 td.yes{background:var(--par-back)}
 td.no{background:var(--ser-back)}
 @media (min-width:1000px){aside{position:sticky;top:0;max-height:100vh;overflow:auto}}

@@ -91,13 +91,25 @@ USAGE = (
     "                 [--must-parallel] [--check ARGUMENTS] [--no-check] [--any-speed] [--check-seconds N]\n"
     "       commute++ --language FILE [--report PAGE] [--remarks] [--why LINE] [--json]"
 )
-EPILOG = """All other words are g++'s. OUT is there, and the status is 0, whenever g++ makes a program: where nothing can run in parallel, where the built program writes other bytes, or isn't faster, OUT is what g++ makes. With
--c, -E, -S and their like, and with objects or libraries among the files, it is g++ exactly.
+EPILOG = """example:
+  commute++ -O2 galaxy.cc -o galaxy --report galaxy.html
+  COMMUTE_THREADS=4 ./galaxy
 
-OUT runs by as many threads as the machine has, or as COMMUTE_THREADS says.
+All other words are g++'s. OUT is there, and the status is 0, whenever g++ makes a
+program: where nothing of it can run in parallel, where the built program would write
+other bytes or isn't faster, OUT is what g++ makes, and the last line says why. With
+-c, -E, -S and their like, and with objects or libraries among the files, it is g++
+exactly; so name all files of a program in one command.
 
-What is proved is that the marked calls may run in any order, of the ported text. The rest is checked at each build, by
-running it.
+Known are classes, templates, vectors, whole numbers and prints; no floating point, no
+input and no files. What isn't known is told by its line. The program is run some
+times while it is built, so that both can be compared and timed.
+
+OUT runs by as many threads as the process may use processors, or as COMMUTE_THREADS
+says.
+
+What is proved is that the marked calls may run in any order, of the ported text. The
+rest is checked at each build, by running it.
 
 statuses:
   0  OUT is there
@@ -209,6 +221,6 @@ def _look_at(made: Words, rest: list[str]) -> None:
         elif word.startswith(OF_CODE) or word == "-O3":
             made.code.append(word)
         elif not word.startswith("-"):
-            (made.sources if os.path.splitext(word)[1] in SOURCES else made.others).append(word)
+            (made.sources if os.path.splitext(word)[1] in SOURCES else made.others).append(word.removeprefix("./"))
         elif word == "-":
             made.is_exact = True

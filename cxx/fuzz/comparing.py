@@ -4,6 +4,7 @@
 from __future__ import annotations
 
 import argparse
+import gc
 import subprocess
 import sys
 import tempfile
@@ -93,6 +94,7 @@ def main(words: list[str]) -> int:
         sys.stdout.write(Program(given.show).text())
         return 0
     sys.setrecursionlimit(100_000)
+    gc.disable()
     return run(given.first, given.count, given.keep)
 
 
@@ -106,6 +108,8 @@ def run(first: int, count: int, keep: Path | None) -> int:
             seeds = range(begin, min(begin + BATCH, first + count))
             texts = {seed: Program(seed).text() for seed in seeds}
             program = built(folder, texts)
+            # Looking for what is in a circle takes a third of the time otherwise.
+            gc.collect()
             for seed, text in texts.items():
                 source = folder / f"seed{seed}.cc"
                 source.write_text(text, encoding="utf-8")

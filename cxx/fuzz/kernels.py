@@ -6,7 +6,8 @@ from __future__ import annotations
 
 from random import Random
 
-from turns import NUMBERS, Lines, Scene, Turns, indented
+from phases import Phases
+from turns import NUMBERS, Lines, Scene, indented
 
 HEAD = """
 #include <algorithm>
@@ -30,6 +31,19 @@ FIELDS = """
 """.strip(
     "\n"
 ).split(
+    "\n"
+)
+SPOT = """
+struct Spot {
+  long x, y;
+  Spot(long x, long y) : x(x), y(y) {}
+  Spot operator+(const Spot &o) const { return Spot((x + o.x) % 1009, (y + o.y) % 1009); }
+  long dot(const Spot &o) const { return x % 90 * o.x + y * o.y % 90; }
+  void turn() { long old = x; x = -y; y = old; }
+  void add(const Spot &o) { x += o.y % 40; y -= o.x % 40; }
+};
+static long apart(const Spot &p, const Spot &q) { return p.x < q.x ? q.x - p.x + p.y % 9 : p.x - q.x + q.y % 9; }
+""".strip().split(
     "\n"
 )
 BUILD = """
@@ -70,24 +84,38 @@ SHOWN = """
 )
 
 
-class Kernels(Turns):
+class Kernels(Phases):
     """One program; `text` writes it."""
 
     def __init__(self, seed: int) -> None:
         super().__init__(Random(seed))
         self.seed = seed
+        self.spots = self.chance(0.3)
 
     def text(self) -> str:
         """The program's text, the same for the same seed."""
-        shown = "\n".join(SHOWN).replace(
+        shown = "\n".join(SHOWN)
+        if self.spots:
+            shown = shown.replace(
+                "  for (Item *p : w.items) {",
+                '  for (Item *p : w.items) {\n    printf("%ld %ld\\n", p->spot.x, p->spot.y);',
+            )
+        shown = shown.replace(
             "for (Tally *t : {tally, other})", "Tally *both[2] = {tally, other};\n  for (Tally *t : both)"
         )
-        phases = [self.phase(at) for at in range(self.random.randint(2, 4))]
+        phases = [self.special(at) if self.chance(0.4) else self.phase(at) for at in range(self.random.randint(2, 4))]
         recursions = [self.recursion(at) for at in range(self.random.randint(0, 2))]
-        lines = (HEAD % self.random.randint(1, 999)).split("\n") + self.item() + self.functions()
+        lines = (HEAD % self.random.randint(1, 999)).split("\n") + SPOT * self.spots + self.item() + self.functions()
         for text, _ in recursions:
             lines += text
-        world = ["std::vector<Item *> items;", "Item *list = nullptr, *root = nullptr;", "Tally *mine = nullptr;"]
+        classes, build, listed, printed = self.listed() if self.chance(0.2) else ([], [], [], [])
+        lines += classes
+        world = [
+            "std::vector<Item *> items;",
+            "Item *list = nullptr, *root = nullptr;",
+            "Tally *mine = nullptr;",
+            "long table[12] = {};",
+        ]
         for text, _ in phases:
             world += text
         lines += [
@@ -96,14 +124,15 @@ class Kernels(Turns):
             "};",
             "int main() {",
             *("\n".join(BUILD) % self.random.randint(1, 11)).split("\n"),
+            *build,
         ]
-        calls = [call for _, call in phases + recursions]
+        calls = [*(call for _, call in phases + recursions), *listed]
         self.random.shuffle(calls)
         if self.chance(0.6):
             calls = [f"for (int t = 0; t < {self.random.randint(1, 3)}; t++) {{", *indented(calls), "}"]
         else:
             calls = ["int t = 1;", *calls]
-        return "\n".join(lines + indented(calls) + shown.split("\n") + ["  return 0;", "}"]) + "\n"
+        return "\n".join(lines + indented(calls) + shown.split("\n") + printed + ["  return 0;", "}"]) + "\n"
 
     # Items and functions ----------------------------------------------------------------------------------------------
 
@@ -111,12 +140,16 @@ class Kernels(Turns):
         """The class of items, with methods that change it and methods that compute."""
         scene = Scene(numbers=["x"], items=["this"], calls=False, marks=False)
         lines = ["struct Item {", *FIELDS]
+        if self.spots:
+            lines[-1] = "  Spot spot;\n  explicit Item(long k) : a(rnd(50)), b(rnd(20)), c(k), spot(k % 7, 3) {}"
+            lines.append("  void shift(const Spot &s) { spot.x += s.x % 70; a += s.y % 30 - s.x % 9; }")
         for at in range(3):
             lines += indented([f"void change{at}(long x) {{", *indented(self.body(scene, 3)), "}"])
         handed = Scene(numbers=["x"], items=["this"], tally="t", calls=False, marks=False)
         lines += indented(["void report(Tally *t, long x) {", *indented(self.body(handed, 3)), "}"])
         for at in range(2):
             lines += indented([f"long value{at}(long x) const {{", *indented(self.computing()), "}"])
+        lines += indented(self.pull())
         return [line.replace("this->", "") if self.chance(0.5) else line for line in lines] + ["};"]
 
     def computing(self) -> Lines:

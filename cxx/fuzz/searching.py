@@ -10,13 +10,17 @@ import tempfile
 import threading
 from collections import Counter
 from pathlib import Path
+from random import Random
 
-from porting import check
+from porting import check, finishing
 from porting.capacities import fitted
 from porting.engine import BUDGET, ask
 from porting.port import Ported, Porter
 from porting.refusals import Unported
-from porting.shaping import search
+from porting.shaping import owned, roles, search, structs
+from porting.shaping.building import Shape
+from porting.shaping.duplicates import duplicate
+from porting.sites import Sites
 
 from comparing import FLAGS, SECONDS, Verdict
 from kernels import Kernels
@@ -24,6 +28,8 @@ from kernels import Kernels
 WORKERS = (1, 4)
 # How many programs g++ compiles at once, each in a namespace: their headers take the most of its time.
 AT_ONCE = 25
+# How often rewrites are done that the search doesn't ask for, and how many upon each other.
+PASSES, MOST_TRIALS = 3, 3
 Written = tuple[bytes, int] | None
 
 
@@ -60,8 +66,8 @@ def _run(program: Path, seed: int) -> Written:
     return None if b"runtime error" in done.stderr or done.returncode < 0 else (done.stdout, done.returncode)
 
 
-def compared(source: Path, wanted: Written, done: Counter[str]) -> tuple[Verdict, str]:
-    """The verdict about one program, and what is said of it; adds which rewrites were done."""
+def compared(source: Path, wanted: Written, done: Counter[str], tried: Counter[str]) -> tuple[Verdict, str]:
+    """The verdict about one program, and what is said of it; adds which rewrites were done by the search, and which anyhow."""
     if wanted is None:
         return Verdict.UNDEFINED, ""
     try:
@@ -75,6 +81,7 @@ def compared(source: Path, wanted: Written, done: Counter[str]) -> tuple[Verdict
         made = Ported(porter.files, ended.program, text, sites, stops, ended.told, ended.loops)
         for count in WORKERS:
             check.compare(check.written(made, ask(str(text), "run", str(count), str(BUDGET))), *wanted)
+        anyhow(porter, sites, wanted, Random(source.name), tried)
     except Unported as unported:
         return Verdict.REFUSED, unported.lines[0]
     except check.Differs as differs:
@@ -82,6 +89,31 @@ def compared(source: Path, wanted: Written, done: Counter[str]) -> tuple[Verdict
     except Exception as fault:  # pylint: disable=broad-except
         return Verdict.FAULT, f"{type(fault).__name__}: {fault}"
     return Verdict.SAME, "rewritten" if shape.done else ""
+
+
+def anyhow(porter: Porter, sites: Sites, wanted: tuple[bytes, int], random: Random, tried: Counter[str]) -> None:
+    """Some of what the search may try, one upon the other, whatever is marked then: the runs have to be the same too."""
+    program, _ = porter.lowered(porter.capacities)
+    shape = Shape(program)
+    if random.random() < 0.5:
+        shape = structs.flattened(shape) or shape
+        shape = roles.split(shape) or shape
+    finishing.begin(shape.program)
+    for one in shape.program.methods():
+        owned.all_of(shape, one)
+    for _ in range(PASSES):
+        trial = duplicate(shape)
+        for _ in range(random.randint(1, MOST_TRIALS)):
+            able = search.trials(trial)
+            if able:
+                able[random.choice(sorted(able))](trial)
+        ended, text, stops = search.finished(trial)
+        answer = ask(str(text), "run", "1", str(BUDGET))
+        # (what isn't accepted as a text of the language is tried in vain)
+        if answer.status != 1 or answer.lines:
+            made = Ported(porter.files, ended.program, text, sites, stops, ended.told, ended.loops)
+            check.compare(check.written(made, answer), *wanted)
+            tried.update(trial.done)
 
 
 class Tried:
@@ -92,6 +124,7 @@ class Tried:
         self.verdicts: Counter[Verdict] = Counter()
         self.done: Counter[str] = Counter()
         self.programs: Counter[str] = Counter()
+        self.anyhow: Counter[str] = Counter()
 
     def some(self, folder: Path, first: int, count: int) -> None:
         """Compares programs whose outputs are found at once."""
@@ -100,10 +133,12 @@ class Tried:
             source = folder / f"kernels_{seed}.cc"
             source.write_text(texts[seed], encoding="utf-8")
             here: Counter[str] = Counter()
-            verdict, said = compared(source, wanted, here)
+            tried: Counter[str] = Counter()
+            verdict, said = compared(source, wanted, here, tried)
             self.verdicts[verdict] += 1
             self.done.update(here)
             self.programs.update(here.keys())
+            self.anyhow.update(tried.keys())
             if verdict not in (Verdict.SAME, Verdict.UNDEFINED):
                 print(f"seed {seed}: {verdict.value}: {said}", flush=True)
                 if self.keep is not None:
@@ -112,7 +147,10 @@ class Tried:
 
     def lines(self) -> list[str]:
         """How often each rewrite was done."""
-        return [f"  {name}: {self.done[name]} times in {self.programs[name]} programs" for name in sorted(self.done)]
+        return [
+            f"  {name}: {self.done[name]} times in {self.programs[name]} programs, anyhow in {self.anyhow[name]}"
+            for name in sorted({*self.done, *self.anyhow})
+        ]
 
 
 def tried(first: int, count: int, keep: Path | None) -> int:

@@ -43,6 +43,8 @@ class Turns:
     def __init__(self, random: Random) -> None:
         self.random = random
         self.made = 0
+        # Whether items have a spot, a struct of numbers.
+        self.spots = False
 
     def fresh(self, stem: str) -> str:
         self.made += 1
@@ -75,6 +77,16 @@ class Turns:
             f"std::max<long>({first}, {second})",
         ]
         ways += [f"({first} ^ {second}) % 64"]
+        if self.spots and scene.items and self.chance(0.15):
+            one, other = random.choice(scene.items), random.choice(scene.items)
+            return random.choice(
+                (
+                    f"{one}->spot.x",
+                    f"{one}->spot.y",
+                    f"{one}->spot.dot({other}->spot) % 83",
+                    f"apart({one}->spot, {other}->spot) % 59",
+                )
+            )
         if scene.items and scene.calls and self.chance(0.4):
             return f"{random.choice(scene.items)}->value{random.randint(0, 1)}({first})"
         return f"({random.choice(ways)})"
@@ -112,6 +124,8 @@ class Turns:
             return self.tallied(scene, depth)
         random, it = self.random, self.random.choice(scene.items)
         place, value = f"{it}->{random.choice(NUMBERS)}", self.number(scene)
+        if self.spots and self.chance(0.25):
+            return [self._moved(it, random.choice(scene.items), value, scene)]
         ways = [
             f"{place} += {value};",
             f"{place} -= {value};",
@@ -126,6 +140,20 @@ class Turns:
             f"{it}->one = {it}->two = {value};",
         ]
         return [random.choice(ways)]
+
+    def _moved(self, it: str, other: str, value: str, scene: Scene) -> str:
+        """An update of an item's spot."""
+        made = f"Spot({value} % 50, {self.number(scene, 0)})"
+        ways = [
+            f"{it}->spot = {it}->spot + {made};",
+            f"{it}->spot = {made};",
+            f"{it}->spot.x += {value};",
+            f"{it}->spot.turn();",
+        ]
+        ways += [f"{it}->spot = {other}->spot;", f"{it}->spot.add({made});", f"{it}->spot.add({other}->spot);"]
+        if scene.calls and self.chance(0.3):
+            ways = [f"{it}->shift({made});", f"{it}->shift({other}->spot);"]
+        return self.random.choice(ways)
 
     def tallied(self, scene: Scene, depth: int) -> Lines:
         """An update of what all items share."""

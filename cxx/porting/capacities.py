@@ -15,11 +15,12 @@ GROWTH = 8
 def fitted(porter: Porter, workers: int = 1) -> tuple[Ported, Answer]:
     """The port with arrays that are long enough, and its run."""
     capacities: dict[str, int] = {}
+    ported = porter.ported(capacities)
     while True:
-        ported = porter.ported(capacities)
         answer = ask(str(ported.text), "run", str(workers), str(BUDGET))
         grown = _grown(ported, answer, capacities)
         if not grown:
+            porter.capacities = capacities
             return ported, answer
 
 
@@ -34,7 +35,8 @@ def _grown(ported: Ported, answer: Answer, capacities: dict[str, int]) -> bool:
     grown = False
     for name, slot in growing(ported.program, statement):
         if slot.length is not None and slot.length < GREATEST_CAPACITY:
-            capacities[name] = min(slot.length * GROWTH, GREATEST_CAPACITY)
+            capacities[name] = slot.length = min(slot.length * GROWTH, GREATEST_CAPACITY)
+            ported.text.lengthened(name, slot)
             grown = True
     return grown
 

@@ -10,11 +10,14 @@ import tempfile
 from dataclasses import dataclass
 
 from .engine import Answer
+from .clang import INCLUDE
 from .limits import LIMITS, TRAPS
+from .places import Place
 from .port import Ported
 from .sites import Written, decoded
 
 SECONDS = 120
+NO_PLACES: list[Place] = []
 # So that what a program has written is there also where it ends by a failed assertion.
 UNBUFFERED = """#include <cstdio>
 namespace {
@@ -124,13 +127,32 @@ def stop_at(ported: Ported, line: int) -> int | None:
     return None
 
 
-def compare(told: Written, output: bytes, code: int) -> None:
-    """Ends with `Differs` where the run of the port stands for other bytes or another exit code."""
+def compare(told: Written, output: bytes, code: int, orders: list[Place] = NO_PLACES) -> None:
+    """Ends with `Differs` where the run of the port stands for other bytes or another exit code; `orders` are the
+    places where C++ leaves open which argument comes first."""
     ours = told.text.encode("latin-1")
     if ours != output:
-        raise Differs(_difference(ours, output))
+        raise Differs(_difference(ours, output) + _open(orders))
     if told.code != code:
-        raise Differs(f"the port ends with {told.code}, the program with {code}")
+        raise Differs(f"the port ends with {told.code}, the program with {code}" + _open(orders))
+
+
+def _open(orders: list[Place]) -> str:
+    """What is said of calls whose arguments g++ may evaluate in another order."""
+    shown = open_places(orders)
+    if not shown:
+        return ""
+    return (
+        f"; C++ leaves open which argument is evaluated first, at {shown}: "
+        "evaluate them one after the other, into locals"
+    )
+
+
+def open_places(orders: list[Place]) -> str:
+    """The user's lines among the places, the first of them."""
+    places = {(one.file, one.line) for one in orders if one.line and not one.file.startswith(INCLUDE)}
+    shown = [f"{file}:{line}" for file, line in sorted(places)]
+    return ", ".join(shown[:4]) + (", .." if len(shown) > 4 else "")
 
 
 def _difference(ours: bytes, theirs: bytes) -> str:

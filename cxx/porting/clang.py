@@ -100,7 +100,9 @@ def unit(files: list[str], words: list[str]) -> Unit:
     for file in files:
         _readable(file)
     with tempfile.TemporaryDirectory() as empty:
+        # A header of the library of which nothing is used may be empty.
         refused: list[str] = []
+        wanted = False
         while True:
             done = _asked(files, [*words, "-isystem", empty])
             told = _lines(done.stderr.decode(errors="replace"))
@@ -108,8 +110,10 @@ def unit(files: list[str], words: list[str]) -> Unit:
             if lacking is None or not _emptied(empty, lacking[1]):
                 break
             place, name = lacking
-            refused.append(lacking_of.of_header(place, name, _is_standard(name)))
-    if done.returncode or refused:
+            standard = _is_standard(name)
+            wanted = wanted or not standard
+            refused.append(lacking_of.of_header(place, name, standard))
+    if done.returncode or wanted:
         raise Unported(_explained(told, refused, "".join(map(_text, files))))
     # All files are one text here, so a name in a namespace without one is a name like others.
     return Unit(json.loads(done.stdout.replace(b"(anonymous namespace)::", b"")))
@@ -129,6 +133,11 @@ def _readable(file: str) -> None:
 def _text(file: str) -> str:
     with open(file, encoding="utf-8", errors="replace") as text:
         return text.read()
+
+
+def mentions(files: list[str], word: str) -> bool:
+    """Whether one of the files has the word."""
+    return any(word in _text(file) for file in files)
 
 
 def _asked(files: list[str], words: list[str]) -> "subprocess.CompletedProcess[bytes]":

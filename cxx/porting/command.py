@@ -8,9 +8,8 @@ import sys
 import threading
 from typing import Callable
 
-from . import check, map, told
+from . import check, map, orders, told
 from .capacities import fitted
-from .engine import Answer
 from .port import Ported, Porter
 from .shaping.shaped import shaped
 from .refusals import FAULTS, Unported
@@ -76,19 +75,18 @@ def words_of(given: argparse.Namespace) -> list[str]:
 def ported(given: argparse.Namespace) -> Ported:
     """The port of the files, checked unless that isn't wanted."""
     words = words_of(given)
-    porter = Porter(given.files, words)
-    made, answer = fitted(porter)
+    porter = Porter(given.files, words, arguments=True)
+    made, answer = fitted(porter) if given.no_check else orders.agreed(porter)
+    tree = porter.tree()
+    if tree.without_arguments:
+        print(f"{tree.main.place}: main has arguments; ported is a run without any", file=sys.stderr)
     if given.no_check:
         check.accepted(made, answer)
         print("not checked: whether the port writes what the program writes", file=sys.stderr)
-    else:
-        checked(made, answer, words)
+    if porter.backwards:
+        shown = check.open_places(made.sites.open_orders)
+        print(f"{shown}: C++ leaves open which argument is evaluated first; ported as g++ does it", file=sys.stderr)
     return made if given.plain else shaped(porter, made, answer)
-
-
-def checked(made: Ported, answer: Answer, words: list[str]) -> None:
-    output, code = check.expected(made.files, words)
-    check.compare(check.written(made, answer), output, code)
 
 
 def guarded(action: Callable[[], None]) -> int:

@@ -23,7 +23,9 @@ def walking(program: t.Program) -> set[t.Variable]:
         (function, node.value)
         for function in program.functions
         for node in t.bodies(function)
-        if isinstance(node, t.Return) and node.value is not None and isinstance(function.result, Pointer)
+        if isinstance(node, t.Return)
+        and node.value is not None
+        and (isinstance(function.result, Pointer) or function.result == STRING)
     ]
     growing = True
     while growing:
@@ -78,6 +80,9 @@ class _Finder:
             case t.Item():
                 if isinstance(node.items.type, Pointer) and isinstance(node.items.type.to, (Object, Vector)):
                     self._take(node.items)
+            case t.VectorCall(method="erase" | "insert"):
+                for at in node.arguments[: 2 if node.method == "erase" else 1]:
+                    self._take(at)
             case t.Declare():
                 if node.variable.initial is not None:
                     self._flow(node.variable, node.variable.initial)
@@ -113,7 +118,7 @@ class _Finder:
         if not _may_walk(variable):
             return
         to_object = isinstance(variable.type, Pointer) and isinstance(variable.type.to, (Object, Vector))
-        if variable.type == STRING and isinstance(bare(value.type), (Array, Pointer)):
+        if variable.type == STRING and isinstance(bare(value.type), (Array, Pointer, Vector)):
             self.found.add(variable)
         if (
             is_place(value)

@@ -139,59 +139,12 @@ def assigned_in(function: t.Function) -> set[t.Variable]:
 
 def mark_uses(program: t.Program) -> None:
     """Sets `whole` and `lent` of variables and members by how they are used."""
-    _read_only(program)
     for node in t.everything(program):
         _mark(node)
     for function in program.functions:
         for initializer in function.initializers:
             if initializer.member is not None and is_lending(initializer.member):
                 _lend(initializer.value)
-
-
-def _read_only(program: t.Program) -> None:
-    """A parameter that is a reference to a number through which nothing is changed is a value."""
-    waiting = {one for function in program.functions for one in lowered_parameters(function) if is_lending(one)}
-    growing = True
-    while growing:
-        changed = {one for node in t.everything(program) for one in _changed_through(node, waiting)}
-        changed |= {
-            node.value.variable
-            for function in program.functions
-            if is_lending_type(function.result)
-            for node in t.bodies(function)
-            if isinstance(node, t.Return) and isinstance(node.value, t.Name)
-        }
-        growing = bool(changed & waiting)
-        waiting -= changed
-    for parameter in waiting:
-        assert isinstance(parameter.type, Reference)
-        parameter.type = Reference(parameter.type.to, True)
-
-
-def _changed_through(node: t.Tree, known: set[t.Variable]) -> list[t.Variable]:
-    """The references that the node may change something through, where those that are known change nothing."""
-    given: list[t.Expr] = []
-    match node:
-        case t.Assign():
-            given = [node.target]
-        case t.Swap():
-            given = [node.left, node.right]
-        case t.AddressOf():
-            given = [node.operand]
-        case t.Declare(variable=t.Variable(type=Reference(), initial=initial)) if initial is not None:
-            given = [initial]
-        case t.Aggregate():
-            if isinstance(node.type, Object):
-                pairs = zip(node.type.record.members, node.parts)
-                given = [part for member, part in pairs if part is not None and is_lending(member)]
-        case t.Call() | t.Construct() if node.function is not None:
-            called = overriders(node.function) if isinstance(node, t.Call) and node.virtual else [node.function]
-            for function in called:
-                pairs_of = zip(lowered_parameters(function), node.arguments)
-                given += [
-                    argument for parameter, argument in pairs_of if is_lending(parameter) and parameter not in known
-                ]
-    return [one.variable for one in given if isinstance(one, t.Name)]
 
 
 def _mark(node: t.Tree) -> None:

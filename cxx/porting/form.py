@@ -25,7 +25,7 @@ stands there or is the port's own; `Method.origin`, `Class.origin` and `Slot.ori
 """
 
 from dataclasses import dataclass, field
-from typing import Callable, Iterator, Optional, Union
+from typing import Any, Callable, Iterator, Optional, Union
 
 from .places import NOWHERE, Place
 
@@ -62,6 +62,8 @@ class Slot:
     origin: str = ""
     grows: bool = False
     place: Place = NOWHERE
+    # Whether its owner has the object that it points to by value, so that nobody else has it as a member.
+    owned: bool = False
 
 
 @dataclass(eq=False)
@@ -333,24 +335,23 @@ Statement = Union[Let, Put, Make, Do, Tell, If, Loop, Count, Break, Continue, Re
 # What walks and maps over all of it -----------------------------------------------------------------------------------
 
 
+_PARTS: dict[type, Callable[[Any], tuple[Expr, ...]]] = {
+    Field: lambda one: (one.object,),
+    Item: lambda one: (one.object, one.index),
+    Binary: lambda one: (one.left, one.right),
+    Not: lambda one: (one.operand,),
+    Minus: lambda one: (one.operand,),
+    Choose: lambda one: (one.condition, one.yes, one.no),
+    Help: lambda one: tuple(one.arguments),
+    Apply: lambda one: (one.receiver, *one.arguments),
+}
+
+
 def parts(expr: Expr) -> tuple[Expr, ...]:
     """The expressions directly within."""
-    match expr:
-        case Field(inner, _, _):
-            return (inner,)
-        case Item(inner, _, index, _):
-            return (inner, index)
-        case Binary(_, left, right, _):
-            return (left, right)
-        case Not(operand, _) | Minus(operand, _):
-            return (operand,)
-        case Choose(condition, yes, no, _):
-            return (condition, yes, no)
-        case Help(_, arguments, _):
-            return arguments
-        case Apply(_, receiver, arguments, _):
-            return (receiver, *arguments)
-    return ()
+    found = _PARTS.get(type(expr))
+    inner: tuple[Expr, ...] = found(expr) if found is not None else ()
+    return inner
 
 
 def with_parts(expr: Expr, new: tuple[Expr, ...]) -> Expr:
@@ -376,10 +377,14 @@ def with_parts(expr: Expr, new: tuple[Expr, ...]) -> Expr:
 
 
 def within(expr: Expr) -> Iterator[Expr]:
-    """The expression and all within it."""
-    yield expr
-    for part in parts(expr):
-        yield from within(part)
+    """The expression and all within it, from outside to inside and from left to right."""
+    waiting = [expr]
+    while waiting:
+        one = waiting.pop()
+        yield one
+        inner = parts(one)
+        if inner:
+            waiting.extend(reversed(inner))
 
 
 def mapped(expr: Expr, change: Callable[[Expr], Optional[Expr]]) -> Expr:
@@ -388,43 +393,42 @@ def mapped(expr: Expr, change: Callable[[Expr], Optional[Expr]]) -> Expr:
     if new is not None:
         return new
     old = parts(expr)
-    made = tuple(mapped(part, change) for part in old)
-    return with_parts(expr, made) if made != old else expr
+    if not old:
+        return expr
+    made = tuple([mapped(part, change) for part in old])
+    same = all(one is other for one, other in zip(made, old))
+    return expr if same else with_parts(expr, made)
+
+
+_OWN: dict[type, Callable[[Any], list[Expr]]] = {
+    Let: lambda one: [one.local, one.value] if one.value is not None else [one.local],
+    Put: lambda one: [one.target, one.value],
+    Make: lambda one: [one.local],
+    Do: lambda one: [one.receiver, *one.arguments] + ([one.result] if one.result is not None else []),
+    Tell: lambda one: list(one.values),
+    If: lambda one: [one.condition],
+    Loop: lambda one: [one.condition],
+    Count: lambda one: [one.counter, one.first, one.condition],
+    Return: lambda one: [one.value] if one.value is not None else [],
+}
+_BLOCKS: dict[type, Callable[[Any], list[list[Statement]]]] = {
+    If: lambda one: [one.yes, one.no],
+    Loop: lambda one: [one.test, one.body, one.step],
+    Count: lambda one: [one.body, [one.step]],
+}
 
 
 def own_expressions(statement: Statement) -> list[Expr]:
     """The expressions of a statement itself, targets and what is declared included, without those of statements
     within."""
-    match statement:
-        case Let(local, value, _):
-            return [local] + ([value] if value is not None else [])
-        case Put(target, _, value, _):
-            return [target, value]
-        case Make(local, _):
-            return [local]
-        case Do(_, receiver, arguments, result, _):
-            return [receiver, *arguments] + ([result] if result is not None else [])
-        case Tell(_, values, _):
-            return list(values)
-        case If(condition, _, _, _) | Loop(_, condition, _, _, _, _):
-            return [condition]
-        case Count(counter, first, condition, _, _, _, _):
-            return [counter, first, condition]
-        case Return(value, _):
-            return [value] if value is not None else []
-    return []
+    found = _OWN.get(type(statement))
+    return found(statement) if found is not None else []
 
 
 def blocks(statement: Statement) -> list[list[Statement]]:
     """The lists of statements directly within."""
-    match statement:
-        case If(_, yes, no, _):
-            return [yes, no]
-        case Loop(test, _, body, step, _, _):
-            return [test, body, step]
-        case Count(_, _, _, step, body, _, _):
-            return [body, [step]]
-    return []
+    found = _BLOCKS.get(type(statement))
+    return found(statement) if found is not None else []
 
 
 def statements(body: list[Statement]) -> Iterator[Statement]:

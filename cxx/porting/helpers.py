@@ -25,8 +25,15 @@ HELPERS = {
   if (k_ == 0) return n_;
   long half_ = n_ / 2;
   if (n_ < 0) half_ = ((n_ & 9223372036854775807) / 2) | 4611686018427387904;
-  for (long i_ = 1; i_ < k_; i_++) half_ = half_ / 2;
-  return half_;
+  long p_ = 1;
+  long l_ = k_ - 1;
+  if ((l_ & 1) != 0) p_ = 2;
+  if ((l_ & 2) != 0) p_ = p_ * 4;
+  if ((l_ & 4) != 0) p_ = p_ * 16;
+  if ((l_ & 8) != 0) p_ = p_ * 256;
+  if ((l_ & 16) != 0) p_ = p_ * 65536;
+  if ((l_ & 32) != 0) p_ = p_ * 4294967296;
+  return half_ / p_;
 }""",
     # Quotient and remainder of 64 bits without sign.
     "quotient_": """long quotient_(long n_, long d_) {

@@ -12,9 +12,9 @@ from typing import Callable
 INPUT = ("input", "write constants: a run has no input")
 FILES = ("a file", "print to the standard output")
 THREADS = ("threads", "write the program serially: told says which of its loops may run in parallel")
-RANDOM = ("random numbers of the library", "write a generator of your own: seed = seed * 1103515245 + 12345")
+RANDOM = ("random numbers of the library", "draw them by rand, or by std::mt19937 with a first value of yours")
 TIME = ("the time", "leave it out: a run has no clock")
-STRINGS = ("strings that are put together", "print the parts one after the other, or write an array of letters")
+STRINGS = ("letters that are put together", "put a std::string together by +=, + and std::to_string")
 LETTERS = ("a function on letters", "write a loop over the letters")
 MEMORY = ("a function on bytes", "write an assignment, or a loop over the items")
 TABLE = ("a table of the library", "write a map, a vector, or a class of your own")
@@ -26,26 +26,47 @@ FUNCTIONS = ("pointers to functions", "write functions by their names, lambdas, 
 KINDS = ("typeid", "write a virtual function that tells the kind")
 
 _NAMES = {
-    INPUT: "cin scanf getchar fgets gets getc fgetc getline fscanf sscanf EOF stdin atoi atol strtol getenv stoi stol",
+    INPUT: "cin scanf getchar fgets gets getc fgetc getline fscanf sscanf EOF stdin strtol getenv",
     FILES: "fopen fclose FILE ofstream ifstream fstream fwrite fread fputs fputc filesystem",
     THREADS: "thread mutex atomic async future promise jthread lock_guard unique_lock condition_variable "
     "shared_mutex barrier latch semaphore execution this_thread pthread",
-    RANDOM: "rand srand random mt19937 mt19937_64 random_device uniform_int_distribution default_random_engine "
-    "uniform_real_distribution normal_distribution minstd_rand shuffle drand48 srand48 lrand48",
+    RANDOM: "random_device mt19937_64 uniform_real_distribution normal_distribution bernoulli_distribution "
+    "discrete_distribution ranlux24 knuth_b drand48 srand48 lrand48",
     TIME: "time clock clock_t time_t ctime chrono CLOCKS_PER_SEC sys",
-    STRINGS: "sprintf snprintf ostringstream istringstream stringstream sstream strcat strcpy strncpy strdup "
-    "string_view format fmt",
-    LETTERS: "strlen strcmp strncmp strchr strstr cstring string.h regex locale",
-    MEMORY: "memset memcpy memmove memcmp new",
-    TABLE: "list forward_list bitset multimap multiset unordered_multimap unordered_multiset valarray span "
-    "priority_queue unordered_map",
-    VALUES: "optional variant any tuple complex ratio make_tuple tie get apply",
+    STRINGS: "ostringstream istringstream stringstream sstream strdup string_view format fmt",
+    LETTERS: "strchr strstr strtok regex locale",
+    MEMORY: "memmove memcmp new",
+    TABLE: "forward_list multimap multiset unordered_multimap unordered_multiset valarray span",
+    VALUES: "variant any tuple complex ratio make_tuple tie get apply",
     FRACTIONS: "setprecision fixed scientific defaultfloat numbers double_t cfloat float.h",
     ARGUMENTS: "cstdarg stdarg.h va_list",
     FUNCTIONS: "function bind ref cref mem_fn invoke",
     KINDS: "typeinfo typeindex type_info",
 }
 WORDS = {name: told for told, names in _NAMES.items() for name in names.split()}
+# What is known where its header is included; others of g++'s headers may include it.
+_DECLARED = {
+    "algorithm": "sort stable_sort find find_if count count_if reverse shuffle max_element min_element lower_bound "
+    "upper_bound binary_search unique fill for_each any_of all_of none_of remove_if transform copy",
+    "cstring": "strlen strcmp strncmp strcpy strncpy strcat memset memcpy",
+    "cstdlib": "rand srand exit abs malloc free atoi atol",
+    "cstdio": "printf puts putchar sprintf snprintf",
+    "random": "mt19937 minstd_rand minstd_rand0 default_random_engine uniform_int_distribution",
+    "numeric": "accumulate iota",
+    "iterator": "next prev distance",
+    "cctype": "isdigit isalpha isalnum isspace isupper islower toupper tolower",
+    "list": "list",
+    "bitset": "bitset",
+    "optional": "optional nullopt",
+    "queue": "queue priority_queue",
+    "map": "map",
+    "set": "set",
+    "unordered_map": "unordered_map",
+    "unordered_set": "unordered_set",
+    "memory": "unique_ptr make_unique shared_ptr make_shared",
+    "limits": "numeric_limits",
+}
+DECLARED = {name: header for header, names in _DECLARED.items() for name in names.split()}
 _HEADER = re.compile(r"^(\S+?:\d+:\d+): fatal error: '(.+)' file not found$")
 _NAMED = re.compile(
     r"^(\S+?:\d+:\d+): error: (?:no \w+|no member|no template|no type) named '(\w+)' in namespace 'std'"
@@ -75,6 +96,9 @@ def of_header(place: str, name: str, known: bool) -> str:
 def refusal(line: str, declares: Callable[[str], bool]) -> str | None:
     """The refusal that an error of clang's is, where it is about something that the stub headers lack. `declares` says
     whether the user's own text has the name elsewhere, so that a slip isn't taken for the library's."""
+    found = _NAMED.match(line) or _ALONE.match(line)
+    if found and found.group(2) in DECLARED and not declares(found.group(2)):
+        return f"{found.group(1)}: {found.group(2)} isn't declared; include <{DECLARED[found.group(2)]}>"
     found = _NAMED.match(line)
     if found:
         told = WORDS.get(found.group(2))
@@ -82,7 +106,8 @@ def refusal(line: str, declares: Callable[[str], bool]) -> str | None:
         return f"{found.group(1)}: std::{found.group(2)}{what}; {instead}"
     found = _MEMBER.match(line)
     if found:
-        return f"{found.group(1)}: {found.group(2)} of std::{found.group(3)}, which isn't known; {MORE[1]}"
+        name = "string" if found.group(3) == "text_" else found.group(3)
+        return f"{found.group(1)}: {found.group(2)} of std::{name}, which isn't known; {MORE[1]}"
     found = _ALONE.match(line)
     if found and found.group(2) in WORDS and not declares(found.group(2)):
         what, instead = WORDS[found.group(2)]

@@ -2,13 +2,13 @@
 
 from dataclasses import dataclass, field
 
-from . import clang
+from . import clang, objectarrays
 from .finishing import finish
 from .form import Method, Program
 from .lowering.program import Lowering
 from .reading import read_program
 from .reading.declarations import unknown_in
-from .refusals import FAULTS, NOT_KNOWN, Refused, Unported
+from .refusals import FAULTS, NOT_KNOWN, PutTogether, Refused, Unported
 from .sites import Sites
 from .places import Place
 from .text import Text
@@ -31,18 +31,40 @@ class Ported:
     loops: dict[Method, Place] = field(default_factory=dict)
 
 
-class Porter:
-    """A program that was read once, and is lowered as often as is asked for."""
+# The face of the stub header's string whose letters are in a vector.
+TOGETHER = "-DSTRINGS_PUT_TOGETHER_"
 
-    def __init__(self, files: list[str], words: list[str]) -> None:
-        self.files, self.words = files, words
-        self._unit = clang.unit(files, words)
+
+class Porter:
+    """A program that was read once, and is lowered as often as is asked for. Where `arguments` is true, its main may
+    have some: the port does what a run without any does."""
+
+    def __init__(self, files: list[str], words: list[str], arguments: bool = False) -> None:
+        self.files, self.words, self._arguments = files, words, arguments
+        self._together = False
+        try:
+            self._unit = clang.unit(files, words)
+        except Unported as unported:
+            if unported.missing or not clang.mentions(files, "string"):
+                raise
+            self._put_together()
         self._tree: Tree | None = None
+        # Whether arguments whose order C++ leaves open are evaluated as g++ does it.
+        self.backwards = False
         self.capacities: dict[str, int] = {}
+
+    def _put_together(self) -> None:
+        self._together = True
+        self._unit = clang.unit(self.files, [*self.words, TOGETHER])
 
     def tree(self) -> Tree:
         if self._tree is None:
-            self._tree, refusals = read_program(self._unit)
+            tree, refusals = read_program(self._unit, self._arguments)
+            if not self._together and any(isinstance(one, PutTogether) for one in refusals.found):
+                self._put_together()
+                tree, refusals = read_program(self._unit, self._arguments)
+            self._tree = tree
+            refusals.found += objectarrays.turned(tree)
             if refusals.found:
                 refusals.found += further(self._tree)
                 refusals.raise_if_any()
@@ -50,7 +72,7 @@ class Porter:
 
     def lowered(self, capacities: dict[str, int]) -> tuple[Program, Sites]:
         """The middle form, before it is finished."""
-        lowering = Lowering(self.tree(), capacities)
+        lowering = Lowering(self.tree(), capacities, self.backwards)
         return lowering.lowered(), lowering.tables.sites
 
     def ported(self, capacities: dict[str, int]) -> Ported:

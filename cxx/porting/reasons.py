@@ -12,6 +12,10 @@ from .places import Place
 from .port import Ported
 
 PAIR = re.compile(r"^(\S+) (\S+) (commutes|unproved (.*))$")
+# What the operation is called that adds an item to a vector.
+PUSH = "vector's push"
+# So many containers are looked at that are within another one.
+NESTED = 4
 # What forbids that an operation first works on its object and then calls: what is said of it, and what mends it.
 CAUSES = {
     "AccessAfterCall": (
@@ -33,6 +37,10 @@ CAUSES = {
         "divide in a const function, and call that",
     ),
 }
+
+
+# What no order mends, and is said of a member.
+PASSED_ON = "from what the call before it left there"
 
 
 @dataclass
@@ -65,14 +73,13 @@ class Namer:
     def place(self, line: int) -> Place:
         return self.ported.text.places[line - 1]
 
-    def field(self, method: str, name: str) -> str:
-        """A member, and where it is declared."""
+    def field(self, method: str, name: str) -> tuple[str, str]:
+        """A member in the user's words, and behind it where it is declared."""
         cls = self.methods[method].cls if method in self.methods else None
         slot = next((one for one in cls.slots if one.name == name), None) if cls is not None else None
         if slot is None:
-            return name
-        where = f" ({short(slot.place)})" if slot.place.line else ""
-        return f"{slot.origin or slot.name}{where}"
+            return name, ""
+        return slot.origin or slot.name, f" ({short(slot.place)})" if slot.place.line else ""
 
     def _asked(self, op: str, at: form.Statement | None) -> Reason | None:
         """Which function is asked for what the same calls change: where that are members of the object itself, they can
@@ -96,15 +103,101 @@ class Namer:
                 return Reason(said, f"pass {names} to it as arguments, or write what it computes here")
         return None
 
+    def _own(self, first: str, name: str) -> str | None:
+        """What mends a write to a part that each object has by value, and whose calls thus never meet."""
+        method = self.methods.get(first)
+        if method is None:
+            return None
+        to = form.Pointer(method.cls.name)
+        found = [(cls, slot) for cls in self.ported.program.classes.values() for slot in cls.slots if slot.type == to]
+        if len(found) != 1 or not found[0][1].owned or found[0][0].name == "Program":
+            return None
+        owner, slot = found[0]
+        where = owner.origin or owner.name
+        return f"each {where} has its own {slot.origin or slot.name}: let {name} be a member of {where} itself, which it changes"
+
+    def _container(self, name: str) -> Reason | None:
+        """What is said of an operation of the library: that a container is changed, and which one, if that can be
+        told."""
+        method = self.methods.get(name)
+        cls = method.cls if method is not None else None
+        if method is None or method.user or cls is None or not cls.place.file.startswith(INCLUDE):
+            return None
+        held, named = cls, "a container of the library"
+        for _ in range(NESTED):
+            to = form.Pointer(held.name)
+            owners = {
+                one: slot for one in self.ported.program.classes.values() for slot in one.slots if slot.type == to
+            }
+            if len(owners) != 1:
+                break
+            ((held, slot),) = owners.items()
+            if not held.place.file.startswith(INCLUDE):
+                where = f" ({short(slot.place)})" if slot.place.line else ""
+                named = f"{slot.origin or slot.name}{where}, a container of the library,"
+                break
+        return Reason(
+            f"{named} is changed, and the order of the calls decides where its items are",
+            "change it in a loop of its own, and do what takes long in another one",
+        )
+
+    def _differs(self, first: str, pushes: bool, both: str, name: str) -> Reason:
+        """Why calls that leave other values in a member don't commute."""
+        method = self.methods.get(first)
+        slots = method.cls.slots if method is not None else []
+        if pushes or any(slot.grows and name in (slot.name, f"{slot.name}_n") for slot in slots):
+            vector = "a vector" if pushes else "".join(self.field(first, name.removesuffix("_n")))
+            return Reason(
+                f"each adds an item to {vector}, behind those that are there, and the order of the calls decides where",
+                "add them in a loop of its own, and do what takes long in another one",
+            )
+        field, where = self.field(first, name)
+        who = f"{both} write {field}"
+        if self.operation(first).startswith("a write of "):
+            who = f"{field} is written from outside its object"
+        mended = self._own(first, name) or "add to it, or keep the greatest or least, in place of the last"
+        return Reason(f"{who}, and the order decides what it has at last{where}", mended)
+
     def weight(self, line: str) -> int:
-        """How much a reason says, the least first: what no order can mend, what is the user's own, the rest."""
+        """How much a reason says, the least first: what no order can mend, what is the user's own, the rest, and what
+        comes of a result that the port keeps in a member."""
         words = line.split()
         if words[3:4] == ["NotSeparable"] and words[-1] in ("Creates", "Prints"):
             return 0
+        if words[3:4] == ["NotSeparable"] and self._reads_result(words[4], int(words[5])):
+            return 3
         first = self.methods.get(words[0])
         return (
             1 if first is not None and not first.origin.startswith("a ") and "first values" not in first.origin else 2
         )
+
+    def _reads_result(self, op: str, line: int) -> bool:
+        """Whether the statement at a line reads what a call has given back, which the port keeps in a member."""
+        method, one = self.methods.get(op), self.ported.text.statements[line - 1]
+        if method is None or one is None:
+            return False
+        results = {slot.name for slot in method.cls.slots if slot.origin.startswith("the result of ")}
+        parts = (part for expr in form.own_expressions(one) for part in form.within(expr))
+        return any(isinstance(part, form.Field) and part.name in results for part in parts)
+
+    def passed_on(self, line: str) -> Reason | None:
+        """Of a pair of one function of the user with itself that isn't shown to commute: whether it makes a member from
+        what the member was, otherwise than by adding to it or keeping the greatest or least. Then no order mends it."""
+        words = line.split()
+        method = self.methods.get(words[0])
+        if words[0] != words[1] or words[2] != "unproved" or method is None or not method.user:
+            return None
+        for one in form.statements(method.body):
+            if (
+                isinstance(one, form.Put)
+                and isinstance(one.target, form.Field)
+                and isinstance(one.target.object, form.This)
+            ):
+                if _goes_on(one):
+                    field, where = self.field(words[0], one.target.name)
+                    said = f"each call of {self.operation(words[0])} makes {field} {PASSED_ON}{where}"
+                    return Reason(said, "give each object that calls it one of its own")
+        return None
 
     def reason(self, line: str) -> Reason | None:
         """The reason of a line of `pairs`; none where the pair commutes."""
@@ -114,39 +207,49 @@ class Namer:
         first, second, words = found.group(1), found.group(2), found.group(4).split()
         one, other = self.operation(first), self.operation(second)
         both = f"two calls of {one}" if one == other else f"a call of {one} and one of {other}"
+        container = self._container(words[1] if words[0] == "NotSeparable" else first) or self._container(second)
+        if container is not None:
+            return container
         match words:
             case ["NotSeparable", op, at, why]:
-                said, mended = CAUSES[why]
-                if why == "FunctionRead":
-                    asked = self._asked(op, self.ported.text.statements[int(at) - 1])
-                    if asked is not None:
-                        return Reason(f"{asked.said} ({short(self.place(int(at)))})", asked.mended)
-                return Reason(
-                    f"{said.format(op=self.operation(op), own='its own')} ({short(self.place(int(at)))})", mended
-                )
+                return self._inseparable(op, int(at), why)
             case ["LoopForm", at]:
-                loop = self.ported.text.statements[int(at) - 1]
+                loop, where = self.ported.text.statements[int(at) - 1], f"the loop at {short(self.place(int(at)))}"
                 if isinstance(loop, (form.Loop, form.Count)):
                     inner = unlisted(loop)
-                    return Reason(f"of the loop at {short(self.place(int(at)))}: {inner.said}", inner.mended)
-                return Reason(
-                    f"the loop at {short(self.place(int(at)))} does more than call functions of objects", BODY
-                )
+                    return Reason(f"of {where}: {inner.said}", inner.mended)
+                return Reason(f"{where} does more than call functions of objects", BODY)
             case ["Large"]:
                 return Reason(
                     f"what {one} computes is too large to be compared",
                     "compute parts of it in const functions, which get the members that these calls change as arguments",
                 )
             case ["FieldDiffers", name]:
-                said = f"{both} write {self.field(first, name)}, and the order decides what it has at last"
-                if one.startswith("a write of "):
-                    said = f"{self.field(first, name)} is written from outside its object, and the order decides what it has at last"
-                return Reason(said, "add to it, or keep the greatest or least, in place of the last")
+                return self._differs(first, PUSH in (one, other), both, name)
             case ["DemandsDiffer"]:
                 return Reason(
                     f"{both} call or check other things in another order", "pass values that these calls don't change"
                 )
         return Reason(line, "")
+
+    def _inseparable(self, op: str, at: int, why: str) -> Reason:
+        """What forbids that an operation first works on its object and then calls."""
+        said, mended = CAUSES[why]
+        where = f" ({short(self.place(at))})"
+        asked = self._asked(op, self.ported.text.statements[at - 1]) if why == "FunctionRead" else None
+        if asked is not None:
+            return Reason(asked.said + where, asked.mended)
+        return Reason(said.format(op=self.operation(op), own="its own") + where, mended)
+
+
+def _goes_on(put: form.Put) -> bool:
+    """Whether a member is made from what it was, so that the order of two such puts can be seen."""
+    if put.operator:
+        return False
+    if isinstance(put.value, form.Binary) and put.value.operator in ("+", "-", "max", "min", "|", "&", "^"):
+        if put.target in (put.value.left, put.value.right):
+            return False
+    return put.target in form.within(put.value)
 
 
 def short(place: Place) -> str:
@@ -166,7 +269,7 @@ def unlisted(loop: form.Loop | form.Count) -> Reason:
         said = "it follows links" if walked else "its iterations aren't counted"
         return Reason(
             f"{said}, so that one has to end before it is known whether there is another",
-            "keep the objects in a vector and write for (.. : vector), or write a recursion",
+            "where each is about an object of its own, keep these in a vector and write for (.. : vector); else it stays serial",
         )
     assert isinstance(loop, form.Count)
     inside = list(form.statements(loop.body))

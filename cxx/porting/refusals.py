@@ -25,6 +25,13 @@ class Refused(Exception):
         return f"{self.place}: {self.what}" + (f"; {self.instead}" if self.instead else "")
 
 
+class PutTogether(Refused):
+    """A string is put together: the program is read with the other face of the stub header's string."""
+
+    def __init__(self, place: Place) -> None:
+        super().__init__(place, "a string that is put together", "print the parts one after the other")
+
+
 class Unported(Exception):
     """The program isn't ported: the lines that say why, and whether it is because something is missing."""
 

@@ -3,6 +3,7 @@
 The ported text prints the number of a site and then its values, each in a line. The site says what C++ writes: literal
 text, and for each value its way: `%` and a format of printf with the bits of its value, `c` a character, `s` a literal
 string by its number, `b` a truth value, `d` or `u` and bits a number of a stream, `!` a word that changes the stream.
+Between `!open` and `!close` are the letters of a string that is no literal; behind `!close` stands printf's format of it.
 """
 
 import re
@@ -29,6 +30,8 @@ class Sites:
     sites: list[Parts] = field(default_factory=lambda: [[]])
     strings: list[str] = field(default_factory=list)
     stops: list[Stop] = field(default_factory=list)
+    # Calls whose arguments change something, in an order that C++ leaves open.
+    open_orders: list[Place] = field(default_factory=list)
 
     def add(self, parts: Parts) -> int:
         if parts in self.sites[1:]:
@@ -67,6 +70,8 @@ class _Stream:
     left: bool = False
     hexadecimal: bool = False
     words: bool = False
+    # What was written before the letters of a string that is open.
+    before: list[str] | None = None
 
     def pad(self, text: str) -> str:
         width, self.width = self.width, 0
@@ -117,9 +122,31 @@ def decoded(lines: list[str], sites: Sites) -> Written:
                 shown.append(_shown(part[0], int(told), stream, sites))
             else:
                 # The values of a print are computed before anything of it is written.
-                return Written("".join(text), code, told)
-        text += shown
-    return Written("".join(text), code, end)
+                return Written("".join((stream.before or []) + text), code, told)
+        text = _gathered(text, shown, sites.sites[site], stream)
+    return Written("".join((stream.before or []) + text), code, end)
+
+
+def _gathered(text: list[str], shown: list[str], parts: Parts, stream: _Stream) -> list[str]:
+    """What is written up to here, where the letters of a string are gathered first."""
+    match parts:
+        case [("!open",)]:
+            stream.before = text
+            return []
+        case [(word,)] if word.startswith("!close") and stream.before is not None:
+            whole, before, stream.before = "".join(text), stream.before, None
+            return [*before, _padded(word.removeprefix("!close"), whole) if word != "!close" else stream.pad(whole)]
+    text += shown
+    return text
+
+
+def _padded(way: str, text: str) -> str:
+    """A string by a format of printf."""
+    found = re.match(r"%(-?)[+0 #]*(\d*)(?:\.(\d+))?s", way)
+    assert found is not None
+    text = text if found.group(3) is None else text[: int(found.group(3))]
+    width = int(found.group(2) or 0)
+    return text.ljust(width) if found.group(1) else text.rjust(width)
 
 
 def _shown(way: str, value: int, stream: _Stream, sites: Sites) -> str:
@@ -130,7 +157,7 @@ def _shown(way: str, value: int, stream: _Stream, sites: Sites) -> str:
         stream.change(way[1:], value)
         return ""
     if way == "c":
-        return stream.pad(chr(value & 255))
+        return stream.pad(chr(value & 255)) if stream.before is None else chr(value & 255)
     if way == "s":
         return stream.pad(sites.strings[value - 1] if value else "")
     if way == "b":
@@ -155,7 +182,7 @@ def _formatted(way: str, value: int, sites: Sites) -> str:
     if letter == "c":
         text = chr(value & 255)
     elif letter == "s":
-        text = sites.strings[value - 1] if value else "(null)"
+        text = sites.strings[value - 1] if value else ""
         text = text[: int(precision)] if precision is not None else text
     else:
         text = _number(value, letter in "di", int(bits), {"x": "x", "X": "X", "o": "o"}.get(letter, "d"))

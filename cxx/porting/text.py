@@ -22,6 +22,8 @@ class Text:
         self.statements: list[form.Statement | None] = []
         self._helpers: dict[str, str] = {}
         self._hidden: set[str] = set()
+        # The lines of fields, by class and field.
+        self._slots: dict[str, int] = {}
         for cls in program.classes.values():
             self._class(cls)
         main = program.main
@@ -46,14 +48,18 @@ class Text:
         self._line(f"class {cls.name} {{", cls.place, 0)
         self._line("public:", cls.place, 0)
         for slot in cls.slots:
-            length = f"[{slot.length}]" if slot.length is not None else ""
-            self._line(f"{_type(slot.type)}{slot.name}{length};", cls.place, 1)
+            self._slots[f"{cls.name}.{slot.name}"] = len(self.lines)
+            self._line(_field(slot), cls.place, 1)
         for method in cls.methods:
             self._method(method)
         for name in self._helpers:
             for line in self._helpers[name].split("\n"):
                 self._line(line, NOWHERE, 1)
         self._line("};", cls.place, 0)
+
+    def lengthened(self, name: str, slot: form.Slot) -> None:
+        """The array of this class and name has another length."""
+        self.lines[self._slots[name]] = "  " + _field(slot)
 
     def _method(self, method: form.Method) -> None:
         self._hidden = {one.name for one in method.parameters}
@@ -190,6 +196,11 @@ class Text:
         given = ", ".join(map(self._value, arguments))
         before = "" if isinstance(receiver, form.This) else f"{self._value(receiver, TAIL)}->"
         return f"{before}{method.name}({given})"
+
+
+def _field(slot: form.Slot) -> str:
+    length = f"[{slot.length}]" if slot.length is not None else ""
+    return f"{_type(slot.type)}{slot.name}{length};"
 
 
 def _type(type_: form.Type) -> str:

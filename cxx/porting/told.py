@@ -5,6 +5,7 @@ from dataclasses import dataclass
 
 from . import form
 from .clang import INCLUDE
+from .contexts import Contexts
 from .engine import Answer, ask
 from .places import Place
 from .port import Ported
@@ -14,22 +15,28 @@ from .refusals import Unported
 
 @dataclass
 class Verdict:
-    """Of a loop or function of the user: what it is, and why it isn't parallel, if it isn't."""
+    """Of a loop or function of the user: what it is, and why it isn't parallel, if it isn't; whether all of its runs are within what
+    runs in parallel, so that it costs no thread its work."""
 
     place: Place
     what: str
     reason: Reason | None
+    within: bool = False
+
+    @property
+    def rank(self) -> int:
+        return 2 if self.reason is None else int(self.within)
 
     def __str__(self) -> str:
-        return f"{short(self.place)}: {self.what} " + (
-            "runs in parallel" if self.reason is None else f"is serial: {self.reason}"
-        )
+        said = (f"is serial: {self.reason}", "is serial, within what runs in parallel", "runs in parallel")[self.rank]
+        return f"{short(self.place)}: {self.what} {said}"
 
 
 def report(ported: Ported) -> list[str]:
     """A line for each loop and recursion of the user, by its place, and a last one that counts."""
     blocks = Blocks(ported)
-    verdicts = merged(loops(ported, blocks) + recursions(ported, blocks))
+    contexts = Contexts(ported, lambda head: bool(blocks.marks.get(head)))
+    verdicts = merged(loops(ported, blocks, contexts) + recursions(ported, blocks, contexts))
     if not verdicts:
         return ["no loop and no recursion"]
     parallel = sum(one.reason is None for one in verdicts)
@@ -97,31 +104,32 @@ def _answered(answer: Answer) -> list[str]:
     return answer.lines
 
 
-def loops(ported: Ported, blocks: Blocks) -> list[Verdict]:
+def loops(ported: Ported, blocks: Blocks, contexts: Contexts) -> list[Verdict]:
     """The loops of the user."""
     namer, found = Namer(ported), []
     for at, statement in enumerate(ported.text.statements):
         if isinstance(statement, (form.Loop, form.Count)) and statement.user and _is_users(ported, statement.place):
             head = f"loop {at + 1}"
             reason = blocks.reason(head, namer) if head in blocks.marks else unlisted(statement)
-            found.append(Verdict(statement.place, "loop", reason))
+            found.append(Verdict(statement.place, "loop", reason, contexts.has_loop(statement)))
     return found
 
 
-def recursions(ported: Ported, blocks: Blocks) -> list[Verdict]:
+def recursions(ported: Ported, blocks: Blocks, contexts: Contexts) -> list[Verdict]:
     """The functions of the user that change something and call themselves, and those others that are marked."""
     namer, found = Namer(ported), []
     called = {method: _called(method) for method in ported.program.methods()}
     for method in called:
-        if not method.user:
+        if not method.user and method not in ported.loops:
             continue
         marked = blocks.marks.get(f"op {method!r}", False)
+        within = contexts.has_method(method)
         if method in ported.loops:
-            found.append(Verdict(ported.loops[method], "loop", blocks.reason(f"op {method!r}", namer)))
+            found.append(Verdict(ported.loops[method], "loop", blocks.reason(f"op {method!r}", namer), within))
             continue
         if _calls_itself(method, called):
             reason = blocks.reason(f"op {method!r}", namer) if not method.pure else _pure(method)
-            found.append(Verdict(method.place, f"recursion {method.origin}", reason))
+            found.append(Verdict(method.place, f"recursion {method.origin}", reason, within))
         elif marked:
             found.append(Verdict(method.place, f"what {method.origin} calls", None))
     return found
@@ -167,6 +175,6 @@ def merged(verdicts: list[Verdict]) -> list[Verdict]:
     for one in verdicts:
         key = (one.place.file, one.place.line, one.place.column, one.what.split()[0])
         known = by_place.get(key)
-        if known is None or known.reason is None:
+        if known is None or one.rank < known.rank:
             by_place[key] = one
     return [by_place[key] for key in sorted(by_place)]

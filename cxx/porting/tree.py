@@ -8,7 +8,7 @@ is a reference.
 
 import re
 from dataclasses import dataclass, field, fields
-from typing import Iterator, Optional, Union
+from typing import Callable, Iterator, Optional, Union, cast
 
 from .places import Place
 from .types import Type
@@ -228,12 +228,14 @@ class Narrow(Node):
 
 @dataclass(eq=False)
 class Call(Node):
-    """A call; `virtual` where the receiver's class chooses the function."""
+    """A call; `virtual` where the receiver's class chooses the function; `listed` where the arguments stand in braces,
+    so that they are evaluated from left to right."""
 
     function: Function
     receiver: Optional["Expr"]
     arguments: list["Expr"]
     virtual: bool = False
+    listed: bool = False
 
 
 @dataclass(eq=False)
@@ -247,18 +249,21 @@ class VectorCall(Node):
 
 @dataclass(eq=False)
 class New(Node):
-    """A new object, or where `length` is there a new array; `initial` is None where nothing is said."""
+    """A new object, or where `length` is there a new array; `initial` is None where nothing is said. `each` is the type
+    of the pointers to the new objects of which the array is one (`objectarrays`)."""
 
     initial: Optional["Expr"]
     length: Optional["Expr"] = None
+    each: Optional[Type] = None
 
 
 @dataclass(eq=False)
 class Construct(Node):
-    """An object made by a constructor; where there is no function, all is left at its start."""
+    """An object made by a constructor; where there is no function, all is left at its start. `listed` as of a call."""
 
     function: Optional[Function]
     arguments: list["Expr"]
+    listed: bool = False
 
 
 @dataclass(eq=False)
@@ -426,6 +431,8 @@ class Program:
     records: list[Record]
     functions: list[Function]
     globals: list[Variable]
+    # Whether main's arguments are read as those of a run without any.
+    without_arguments: bool = False
 
 
 # What walks over all of it --------------------------------------------------------------------------------------------
@@ -440,7 +447,7 @@ def _names(node: Tree) -> tuple[str, ...]:
     """The fields of the node in which others may be."""
     kind = type(node)
     if kind not in _NAMES:
-        _NAMES[kind] = tuple(one.name for one in fields(node) if one.name not in ("type", "place"))
+        _NAMES[kind] = tuple(one.name for one in fields(node) if one.name not in ("type", "place", "each"))
     return _NAMES[kind]
 
 
@@ -466,6 +473,35 @@ def walk(node: Tree) -> Iterator[Tree]:
     yield node
     for part in parts(node):
         yield from walk(part)
+
+
+def rewrite(program: Program, change: Callable[[Tree], Tree]) -> None:
+    """Puts in the place of each node what the change makes of it, from within to without."""
+    for function in program.functions:
+        for initializer in function.initializers:
+            initializer.value = cast(Expr, _rewritten(initializer.value, change))
+        if function.body is not None:
+            _rewritten(function.body, change)
+    owners: list[Variable | Member] = [*program.globals, *(one for record in program.records for one in record.members)]
+    for one in owners:
+        if one.initial is not None:
+            one.initial = cast(Expr, _rewritten(one.initial, change))
+
+
+def _rewritten(node: Tree, change: Callable[[Tree], Tree]) -> Tree:
+    for name in _names(node):
+        value = getattr(node, name)
+        if isinstance(value, (Node, Step)):
+            setattr(node, name, _rewritten(value, change))
+        elif isinstance(value, list):
+            for at, one in enumerate(value):
+                if isinstance(one, (Node, Step, Case)):
+                    value[at] = _rewritten(one, change)
+                elif isinstance(one, tuple):
+                    value[at] = (one[0], _rewritten(one[1], change))
+        elif isinstance(node, Declare) and node.variable.initial is not None:
+            node.variable.initial = cast(Expr, _rewritten(node.variable.initial, change))
+    return change(node)
 
 
 def bodies(function: Function) -> Iterator[Tree]:

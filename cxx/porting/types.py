@@ -82,7 +82,8 @@ NUMBERS: dict[str, Type] = {
     "nullptr_t": NULL,
     "ostream": STREAM,
     "literal_": STRING,
-    "string": STRING,
+    # What insert of a set or a map says; of it `second` alone can be had.
+    "inserted_": BOOL,
 }
 _ARRAY = re.compile(r"^(.*?)\s*((?:\[\d+\])+)$")
 # Pointers and references to arrays; clang 14 spells a reference that was deduced without its brackets.
@@ -155,6 +156,8 @@ class TypeReader:
     def _simple(self, text: str) -> Type:
         if text in NUMBERS:
             return NUMBERS[text]
+        if text == "string":
+            return self._named(text) or STRING
         vector = re.match(r"^(?:vector|initializer_list)<(.*)>$", text)
         if vector:
             return Vector(self(vector.group(1)))
@@ -162,7 +165,7 @@ class TypeReader:
         if within:
             item = self(within.group(1))
             return {"value_type": item, "size_type": UNSIGNED_LONG}.get(within.group(2), Pointer(item))
-        owning = re.match(r"^(?:unique_ptr|shared_ptr)<(.*)>$", text)
+        owning = re.match(r"^(?:unique_ptr|shared_ptr|weak_ptr)<(.*)>$", text)
         if owning:
             return Pointer(self(owning.group(1)))
         if "(unnamed enum" in text or "(anonymous enum" in text:

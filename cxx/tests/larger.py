@@ -25,7 +25,7 @@ SIZES: dict[str, list[tuple[str, str]]] = {
     "classic_power": [("F = 4, L = 5, B = 3", "F = 10, L = 20, B = 10"), ("round < 6", "round < 60")],
     "classic_reach": [("n = 700", "n = 500000")],
     "classic_treeadd": [("Tree(11, 1)", "Tree(20, 1)"), ("pass < 5", "pass < 20")],
-    "classic_wordcount": [("docs = 50, length = 60", "docs = 2000, length = 600"), ("rnd(300); x", "rnd(3000); x")],
+    "classic_wordcount": [("docs = 50, length = 60", "docs = 1600, length = 600"), ("rnd(300); x", "rnd(3000); x")],
 }
 
 

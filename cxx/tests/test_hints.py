@@ -110,3 +110,42 @@ def test_a_function_that_asks_for_what_its_caller_changes(tmp_path: Path) -> Non
 )
 def test_what_is_passed_on(part: str, ending: str, tmp_path: Path) -> None:
     assert told(TREE, tmp_path)[line_of(TREE, part)].endswith("; " + ending)
+
+
+FILLED = """#include <map>
+struct Shop {
+  std::map<int, long> stock;
+  std::vector<long> order;
+  void sell(int what) { stock[what] += 2; }
+  void note(long what) { order.push_back(what); }
+};
+struct Client {
+  Shop *shop;
+  int wants;
+  Client(Shop *s, int w) : shop(s), wants(w) {}
+  void buy() { shop->sell(wants); }
+  void ask() { shop->note(wants); }
+};
+int main() {
+  Shop shop;
+  std::vector<Client *> all;
+  for (int i = 0; i < 9; i++) all.push_back(new Client(&shop, i % 4));
+  for (Client *c : all) c->buy();
+  for (Client *c : all) c->ask();
+  printf("%ld %zu\\n", shop.stock[2], shop.order.size());
+}
+"""
+
+
+@pytest.mark.parametrize(
+    "part, said",
+    [
+        (
+            "for (Client *c : all) c->buy",
+            "stock (it.cc:6), a container of the library, is changed, and the order of the",
+        ),
+        ("for (Client *c : all) c->ask", "each adds an item to order (it.cc:7), behind those that are there"),
+    ],
+)
+def test_containers_that_are_filled(part: str, said: str, tmp_path: Path) -> None:
+    assert said in told(FILLED, tmp_path)[line_of(FILLED, part)]

@@ -5,7 +5,7 @@ from pathlib import Path
 
 import pytest
 from porting import check
-from porting.capacities import fitted
+from porting.orders import agreed
 from porting.port import Porter
 
 HERE = Path(__file__).resolve().parent
@@ -14,6 +14,6 @@ PROGRAMS = sorted((HERE / "constructs").glob("*.cc")) + sorted((HERE / "programs
 
 @pytest.mark.parametrize("source", PROGRAMS, ids=lambda path: f"{path.parent.name}/{path.stem}")
 def test_port_writes_what_the_program_writes(source: Path) -> None:
-    ported, answer = fitted(Porter([str(source)], []))
+    made, answer = agreed(Porter([str(source)], [], arguments=True))
     output, code = check.expected([str(source)], [])
-    check.compare(check.written(ported, answer), output, code)
+    check.compare(check.written(made, answer), output, code)

@@ -7,8 +7,6 @@ import subprocess
 import sys
 from pathlib import Path
 
-import pytest
-
 HERE = Path(__file__).resolve().parent
 CXX = HERE.parent
 sys.path.insert(0, str(CXX.parent / "native"))
@@ -73,7 +71,6 @@ int main() {
 """
 
 
-@pytest.mark.xfail(reason="the search leaves this walk serial, which is not understood yet", strict=False)
 def test_walks_and_what_runs_within_them_are_found(tmp_path: Path) -> None:
     building.deep()
     source = tmp_path / "walk.cc"

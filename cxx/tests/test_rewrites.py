@@ -4,7 +4,6 @@
 from collections import Counter
 from pathlib import Path
 from random import Random
-from typing import Callable
 
 import pytest
 from porting import finishing, form
@@ -16,6 +15,7 @@ from porting.shaping import (
     asked,
     extremes,
     gather,
+    given,
     group,
     guard,
     handed,
@@ -23,24 +23,27 @@ from porting.shaping import (
     opaque,
     order,
     owned,
+    owner,
     receiver,
     roles,
     search,
+    seek,
     shaped,
+    structs,
     sums,
     turn,
     values,
     walk,
+    zeros,
 )
 from porting.shaping.building import Shape
 from porting.shaping.duplicates import duplicate
-from porting.shaping.facts import recursive
 
 HERE = Path(__file__).resolve().parent
 NAMES = {
-    aliases.NAME, asked.NAME, extremes.NAME, gather.NAME, group.NAME, guard.NAME, handed.NAME, inline.NAME, opaque.NAME, order.NAME,
-    owned.NAME, receiver.NAME, roles.NAME, sums.NAME, turn.NAME, turn.OUTSIDE, turn.SHARED, values.LOOP, values.DIVISION, values.SECTION,
-    walk.NAME, walk.REST,
+    aliases.NAME, asked.NAME, extremes.NAME, gather.NAME, given.NAME, group.NAME, guard.NAME, handed.NAME, inline.NAME, opaque.NAME, order.NAME,
+    owned.NAME, owner.NAME, receiver.NAME, roles.NAME, seek.NAME, structs.NAME, sums.NAME, turn.NAME, turn.OUTSIDE, turn.SHARED, values.LOOP, values.DIVISION,
+    values.SECTION, values.SHARED, walk.NAME, walk.REST, zeros.NAME,
 }  # fmt: skip
 PAIRS = 60
 
@@ -52,8 +55,10 @@ class Program:
         self.porter = Porter([str(HERE / "programs" / f"{name}.cc")], [])
         self.plain, self.answer = self.fitted()
         program, _ = self.porter.lowered(self.porter.capacities)
-        split = roles.split(Shape(program)) if with_roles else None
-        self.shape = split if split is not None else Shape(program)
+        self.shape = Shape(program)
+        if with_roles:
+            self.shape = structs.flattened(self.shape) or self.shape
+            self.shape = roles.split(self.shape) or self.shape
         finishing.begin(self.shape.program)
         for one in self.shape.program.methods():
             owned.all_of(self.shape, one)
@@ -68,18 +73,6 @@ class Program:
         return shaped.same(self.plain, self.answer, made)
 
 
-def trials(shape: Shape) -> dict[str, Callable[[Shape], bool]]:
-    """All that the search may try on a program, by the line and a name."""
-    methods, found = shape.program.methods(), {}
-    for place in dict.fromkeys(loop.place for _, _, loop in search.sites(shape)):
-        found.update({f"{place.line}:{place.column} loop, {name}": one for name, one in search.of_loop(place)})
-    for place in dict.fromkeys(one.place for one in methods if recursive(one)):
-        found.update({f"{place.line} recursion, {name}": one for name, one in search.of_recursion(place)})
-    for place in dict.fromkeys(one.place for one in methods if one.pure):
-        found.update({f"{place.line} value, {name}": one for name, one in search.of_value(place)})
-    return found
-
-
 @pytest.fixture(scope="module", name="program")
 def of_rewrites() -> Program:
     return Program("rewrites", with_roles=True)
@@ -88,7 +81,7 @@ def of_rewrites() -> Program:
 def test_each_rewrite_alone_keeps_what_is_written(program: Program) -> None:
     """And each has something to do there."""
     done: Counter[str] = Counter(program.shape.done)
-    for name, change in trials(program.shape).items():
+    for name, change in search.trials(program.shape).items():
         trial = duplicate(program.shape)
         if change(trial):
             assert program.same(trial), name
@@ -98,12 +91,12 @@ def test_each_rewrite_alone_keeps_what_is_written(program: Program) -> None:
 
 def test_pairs_of_rewrites_keep_what_is_written(program: Program) -> None:
     random, tried = Random(7), 0
-    names = list(trials(program.shape))
+    names = list(search.trials(program.shape))
     while tried < PAIRS:
         first, second = random.sample(names, 2)
         trial = duplicate(program.shape)
-        if trials(trial)[first](trial):
-            change = trials(trial).get(second)
+        if search.trials(trial)[first](trial):
+            change = search.trials(trial).get(second)
             if change is not None and change(trial):
                 assert program.same(trial), f"{first}; {second}"
                 tried += 1

@@ -7,7 +7,8 @@ import pytest
 from porting import finishing, form
 from porting.capacities import fitted
 from porting.port import Ported, Porter
-from porting.shaping import search, turn, values
+from porting.places import NOWHERE
+from porting.shaping import accumulators, actions, search, turn, values
 from porting.shaping.building import Shape
 from porting.shaping.duplicates import duplicate
 from porting.shaping.shaped import same
@@ -63,3 +64,72 @@ def test_a_loop_that_writes_another_object_is_no_value_method() -> None:
     _, _, _, shape = shape_of("classic_life")
     _, _, loop = loop_at(shape, 27)
     assert not values.may_be(loop)
+
+
+X, P = form.Local("x", form.LONG), form.Local("p", form.LONG)
+MORE = form.Binary(">", P, X, form.BOOL)
+
+
+@pytest.mark.parametrize(
+    "body, gathers",
+    [
+        ([form.Put(X, "+", P, NOWHERE), form.Put(X, "-", form.Number(1), NOWHERE)], True),
+        ([form.Put(X, "", form.Binary("max", X, P, form.LONG), NOWHERE)], True),
+        ([form.If(MORE, [form.Put(X, "", P, NOWHERE)], [], NOWHERE)], True),
+        ([form.If(form.Binary("<", P, form.Number(3), form.BOOL), [form.Put(X, "", form.Number(1), NOWHERE)], [], NOWHERE)], True),
+        ([form.Put(X, "", P, NOWHERE)], False),
+        ([form.Put(X, "+", P, NOWHERE), form.Put(X, "*", form.Number(2), NOWHERE)], False),
+        ([form.Put(X, "+", form.Binary("*", P, X, form.LONG), NOWHERE)], False),
+        ([form.If(MORE, [form.Put(X, "", P, NOWHERE)], [], NOWHERE), form.Put(X, "", P, NOWHERE)], False),
+        ([form.Put(X, "+", P, NOWHERE), form.Put(P, "", X, NOWHERE)], False),
+    ],
+)  # fmt: skip
+def test_what_only_gathers(body: list[form.Statement], gathers: bool) -> None:
+    assert accumulators.gathers(body, X) == gathers
+
+
+# Objects that are one and the same where the text has two names: what gives an operation its form leaves what is written.
+ALIASED = {
+    "a loop reads the field that it adds to of another object": """
+struct Item { long v = 1; Item *near[2], *next; void work(Item *, long) { for (int i = 0; i < 2; i++) v += near[i]->v; } };
+""",
+    "the member that names an object is written through it": """
+struct Item {
+  long v = 0;
+  Item *near[2], *next;
+  void work(Item *q, long x) { next->next = q; next->v += x; if (next->v > 3) next->v -= 2; }
+};
+""",
+    "a condition that holds without a look at the object": """
+struct Item {
+  long v = 0, w = 0;
+  Item *near[2], *next;
+  void work(Item *q, long x) { if (x > 1 || q->v > 5) { if (q) { v += q->w; w = 1; } } }
+};
+""",
+}
+MAIN = """
+int main() {
+  Item *a = new Item, *b = new Item;
+  a->near[0] = a; a->near[1] = b; b->near[0] = b; b->near[1] = a;
+  a->next = a; b->next = b;
+  a->work(FIRST, 4);
+  b->work(a, 1);
+  printf("%ld %ld\\n", a->v, b->v);
+}
+"""
+
+
+@pytest.mark.parametrize("words", sorted(ALIASED))
+def test_two_names_of_one_object(words: str, tmp_path: Path) -> None:
+    source = tmp_path / "aliased.cc"
+    main = MAIN.replace("FIRST", "nullptr" if "condition" in words else "b")
+    source.write_text("#include <cstdio>\n" + ALIASED[words] + main, encoding="utf-8")
+    porter = Porter([str(source)], [])
+    plain, answer = fitted(porter)
+    program, _ = porter.lowered(porter.capacities)
+    finishing.begin(program)
+    shape = Shape(program)
+    actions.tidy(shape, next(one for one in program.methods() if one.name == "work"))
+    assert answer.status == 0
+    assert same(plain, answer, ported_as(porter, plain, shape))

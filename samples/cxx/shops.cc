@@ -82,10 +82,11 @@ public:
   int room() const { return size; }
 };
 
-// A part of the town with its shops: in two halves, or in a leaf.
+// A part of the town: in two halves, or a leaf. Its shops lie beside each other in the list of all shops.
 class Quarter {
   long left, right, bottom, top;
-  std::vector<Shop *> shops;
+  const std::vector<Shop *> *shops;
+  int from, to;
   Quarter *first = nullptr, *second = nullptr;
 
   // The square of the way to the nearest point of the quarter.
@@ -96,30 +97,27 @@ class Quarter {
   }
 
 public:
-  explicit Quarter(const std::vector<Shop *> &all) : left(TOWN), right(0), bottom(TOWN), top(0), shops(all) {
-    for (const Shop *shop : shops) {
-      left = std::min(left, shop->x);
-      right = std::max(right, shop->x);
-      bottom = std::min(bottom, shop->y);
-      top = std::max(top, shop->y);
+  Quarter(std::vector<Shop *> &all, int from, int to)
+      : left(TOWN), right(0), bottom(TOWN), top(0), shops(&all), from(from), to(to) {
+    for (int i = from; i < to; i++) {
+      left = std::min(left, all[i]->x);
+      right = std::max(right, all[i]->x);
+      bottom = std::min(bottom, all[i]->y);
+      top = std::max(top, all[i]->y);
     }
-    if (shops.size() > LEAF) split();
+    if (to - from > LEAF) split(all);
   }
 
-  void split() {
+  // Brings the shops of the lower half in front of the others.
+  void split(std::vector<Shop *> &all) {
     const bool is_wide = right - left > top - bottom;
     const long middle = is_wide ? (left + right) / 2 : (bottom + top) / 2;
-    std::vector<Shop *> low, high;
-    for (Shop *shop : shops) {
-      if ((is_wide ? shop->x : shop->y) <= middle)
-        low.push_back(shop);
-      else
-        high.push_back(shop);
-    }
-    if (low.empty() || high.empty()) return;
-    first = new Quarter(low);
-    second = new Quarter(high);
-    shops.clear();
+    int low = from;
+    for (int i = from; i < to; i++)
+      if ((is_wide ? all[i]->x : all[i]->y) <= middle) std::swap(all[low++], all[i]);
+    if (low == from || low == to) return;
+    first = new Quarter(all, from, low);
+    second = new Quarter(all, low, to);
   }
 
   // The appeal of all open shops in reach of a place.
@@ -127,7 +125,8 @@ public:
     if (way(x, y) > reach * reach) return 0;
     if (first != nullptr) return first->appeal(x, y, reach) + second->appeal(x, y, reach);
     long sum = 0;
-    for (const Shop *shop : shops) {
+    for (int i = from; i < to; i++) {
+      const Shop *shop = (*shops)[i];
       const long dx = shop->x - x, dy = shop->y - y;
       const long square = dx * dx + dy * dy;
       if (square <= reach * reach) sum += shop->appeal(square);
@@ -140,7 +139,8 @@ public:
     if (way(x, y) > reach * reach) return 0;
     if (first != nullptr) return first->count(x, y, reach) + second->count(x, y, reach);
     long found = 0;
-    for (const Shop *shop : shops) {
+    for (int i = from; i < to; i++) {
+      const Shop *shop = (*shops)[i];
       const long dx = shop->x - x, dy = shop->y - y;
       if (shop->open() && dx * dx + dy * dy <= reach * reach) found++;
     }
@@ -184,7 +184,7 @@ public:
       const Place at = map.somewhere(random);
       shops.push_back(new Shop(i, at, 1 + random.below(20)));
     }
-    whole = new Quarter(shops);
+    whole = new Quarter(shops, 0, SHOPS);
   }
 
   void look() {

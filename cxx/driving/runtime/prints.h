@@ -30,6 +30,9 @@ struct Stream {
   bool is_left = false, is_hexadecimal = false, has_words = false;
 };
 static Stream stream;
+// The letters of a string that is no literal, from its first to its last: what is written depends on their number.
+static std::string gathered;
+static bool is_gathering = false;
 static const Piece *due = nullptr;
 static bool is_code_due = false;
 // Who looks on sees each line when it is there.
@@ -93,7 +96,7 @@ template <class Value> static void format(const char *as, Value value) {
 
 static void formatted(long value, const Piece &piece) {
   const char letter = piece.text[piece.size - 1];
-  if (letter == 's') return format(piece.text, value != 0 ? strings[value].text : "(null)");
+  if (letter == 's') return format(piece.text, strings[value].text);
   if (letter == 'c') return format(piece.text, int(value & 255));
   format(piece.text, of_bits(value, piece.bits, letter == 'd' || letter == 'i'));
 }
@@ -110,6 +113,16 @@ static void change(const char *word, long value) {
   case 'd': stream.is_hexadecimal = false; break;
   case 'b': stream.has_words = true; break;
   case 'n': stream.has_words = false; break;
+  case 'o':
+    is_gathering = true;
+    gathered.clear();
+    break;
+  case 'c':
+    // Behind the word stands printf's format, if it is one that writes the string.
+    is_gathering = false;
+    if (word[5] == 0) padded(gathered.data(), gathered.size());
+    else format(word + 5, gathered.c_str());
+    break;
   }
 }
 
@@ -122,7 +135,9 @@ static void show(long value, const Piece &piece) {
   case Piece::WORD: return change(piece.text, value);
   case Piece::CHARACTER: {
     const char letter = char(value);
-    return padded(&letter, 1);
+    if (!is_gathering) return padded(&letter, 1);
+    gathered.push_back(letter);
+    return;
   }
   case Piece::STRING: return padded(strings[value].text, strings[value].size);
   case Piece::TRUTH: {

@@ -47,24 +47,29 @@ def prepared(body: Body, node: t.Call, out: Out, after: Out) -> tuple[form.Expr,
     parameters = lowered_parameters(node.function)
     pairs = list(zip(parameters, node.arguments))
     nodes = [argument for _, argument in pairs]
+    if not node.function.library and not node.listed:
+        values.note_order(body, nodes, node.place)
     if node.receiver is None:
         receiver: form.Expr = form.Root()
     else:
         receiver = values.pointer_to(body, node.receiver, out)
         receiver = values.keep_before(body, receiver, nodes, out, node.place)
-    made: list[form.Expr] = []
+    made: list[list[form.Expr]] = [[] for _ in pairs]
     lent: list[tuple[form.Item, form.Expr]] = []
-    kinds: list[Kind] = []
-    for at, (parameter, argument) in enumerate(pairs):
+    kinds: dict[int, Kind] = {}
+    backwards = body.tables.backwards and not node.listed
+    for at in reversed(range(len(pairs))) if backwards else range(len(pairs)):
+        parameter, argument = pairs[at]
+        later = nodes[:at] if backwards else nodes[at + 1 :]
         if parameter in body.tables.walking:
             spot = cursors.spot(body, argument, out)
             for part in (spot.held.object, spot.index):
-                made.append(values.keep_before(body, part, nodes[at + 1 :], out, node.place))
-            kinds.append(cursors.kind_of(body, spot))
+                made[at].append(values.keep_before(body, part, later, out, node.place))
+            kinds[at] = cursors.kind_of(body, spot)
             continue
         one = _argument(body, parameter, argument, out, after, lent)
-        made.append(values.keep_before(body, one, nodes[at + 1 :], out, node.place))
-    return receiver, made, tuple(kinds)
+        made[at].append(values.keep_before(body, one, later, out, node.place))
+    return receiver, [one for parts in made for one in parts], tuple(kinds[at] for at in sorted(kinds))
 
 
 def _argument(
@@ -81,9 +86,7 @@ def _argument(
     made = values.value(body, node, out)
     held = body.shapes.of(type_)
     if isinstance(made.type, form.Pointer) != isinstance(held, form.Pointer):
-        raise Refused(
-            node.place, "an array of letters where a literal string is wanted", "let the parameter be an array"
-        )
+        raise Refused(node.place, *values.LETTERS)
     return form.Null(held) if isinstance(made, form.Null) and isinstance(held, form.Pointer) else made
 
 
@@ -217,6 +220,9 @@ def within(body: Body, node: t.Call, out: Out) -> Body:
     for parameter, argument in zip(lowered_parameters(function), node.arguments):
         if is_lending(parameter):
             places.bind(inner, parameter, argument, out, node.place)
+            continue
+        if parameter in body.tables.walking:
+            cursors.declare(inner, parameter, argument, out, node.place, body)
             continue
         made = _argument(body, parameter, argument, out, [], [])
         local = body.temporary(body.shapes.of(parameter.type), parameter.name)

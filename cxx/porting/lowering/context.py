@@ -83,6 +83,8 @@ class Tables:
     walking: set[t.Variable] = field(default_factory=set)
     # Whether the program looks at the letters of literal strings.
     letters: bool = False
+    # Whether arguments whose order C++ leaves open are evaluated from right to left, as g++ does it.
+    backwards: bool = False
     # Of methods whose result is a place: which field of the object that they give it is.
     given: dict[form.Method, "Given"] = field(default_factory=dict)
     # Makes the method of a function for the kinds of its walking parameters, where a call meets it first.

@@ -101,7 +101,10 @@ def _of_vector(body: Body, node: t.VectorCall, out: Out) -> Spot:
     if node.method in ("erase", "insert"):
         held = places.kept_container(body, held, out, node.place)
         index = body.kept(index_of(body, node.arguments[0], out), out, node.place)
-        vectors.change_at(body, node, held, index, out)
+        if node.method == "erase" and len(node.arguments) > 1:
+            vectors.erase_range(body, node, held, [index, index_of(body, node.arguments[1], out)], out)
+        else:
+            vectors.change_at(body, node, held, index, out)
         return Spot(held, index)
     if node.method == "begin":
         return _absolute(body, held, form.Number(0))
@@ -136,11 +139,13 @@ def give(body: Body, value: t.Expr, out: Out) -> None:
     calls.give(body, form.Item(start.held.object, start.held.items, start.index, of), kind, value.place, out)
 
 
-def declare(body: Body, variable: t.Variable, initial: t.Expr | None, out: Out, at: Place) -> None:
-    """A local that walks."""
+def declare(
+    body: Body, variable: t.Variable, initial: t.Expr | None, out: Out, at: Place, given_in: Body | None = None
+) -> None:
+    """A local that walks; its first value is read in another body, where one is given."""
     if initial is None:
         raise Refused(at, f"{variable.name} without a first value", "declare it where it gets its first place")
-    start = spot(body, initial, out)
+    start = spot(given_in or body, initial, out)
     kind = kind_of(body, start)
     owner = body.local(f"{variable.name}_of", form.Pointer(kind.cls))
     index = body.local(variable.name, form.LONG)

@@ -40,8 +40,9 @@ def make(body: Body, local: form.Local, type_: Type, initial: t.Expr | None, out
     """Declares the local as a pointer to a new object, array or vector with this first value."""
     if isinstance(type_, Object):
         if isinstance(initial, t.Construct) or initial is None:
-            function = initial.function if initial is not None else default_constructor(type_.record)
-            construct(body, local, type_.record, function, initial.arguments if initial is not None else [], out, place)
+            if initial is None:
+                initial = t.Construct(type_, place, default_constructor(type_.record), [])
+            construct(body, local, type_.record, initial, out, place)
             return
         if isinstance(initial, t.Aggregate):
             _aggregate(body, local, type_.record, initial, out)
@@ -76,6 +77,9 @@ def _new(body: Body, node: t.New, out: Out) -> form.Expr:
         fill(body, held, node.initial.type, node.initial, out, place)
     elif isinstance(to, (Vector, Array)):
         _each(body, held, length, to, out, place)
+    elif isinstance(node.each, ct.Pointer):
+        length = body.kept(length, out, place)
+        _each(body, Container(local, "at", None, node.each.to), length, node.each.to, out, place)
     if isinstance(length, form.Number):
         body.shapes.need(body.shapes.classes[local.type.cls], length.value)  # type: ignore[union-attr]
     return local
@@ -95,16 +99,16 @@ def construct(
     body: Body,
     local: form.Local,
     record: t.Record,
-    function: t.Function | None,
-    given: list[t.Expr],
+    initial: t.Construct,
     out: Out,
     place: Place,
 ) -> None:
     """A new object, and the call of its constructor."""
     after: Out = []
     arguments: list[form.Expr] = []
-    if function is not None and given:
-        call = t.Call(ct.VOID, place, function, None, given)
+    function = initial.function
+    if function is not None and initial.arguments:
+        call = t.Call(ct.VOID, place, function, None, initial.arguments, False, initial.listed)
         _, arguments, kinds = calls.prepared(body, call, out, after)
         _no_kinds(kinds, place)
     out.append(form.Make(local, place))
@@ -189,7 +193,7 @@ def _before_members(body: Body, record: t.Record, other: t.Initializer, out: Out
     after: Out = []
     arguments: list[form.Expr] = []
     if value.function is not None and value.arguments:
-        call = t.Call(ct.VOID, other.place, value.function, None, value.arguments)
+        call = t.Call(ct.VOID, other.place, value.function, None, value.arguments, False, value.listed)
         _, arguments, kinds = calls.prepared(body, call, out, after)
         _no_kinds(kinds, other.place)
     method = initializer(body, value.type.record, value.function)
@@ -213,7 +217,7 @@ def member_at(
             out.append(form.Put(form.Field(owner, name, box.type), "", box, place))
             target = form.Field(box, "value", shapes.of(type_))
         if initial is not None:
-            value = values.value(body, initial, out)
+            value = values.literal(body, initial, type_, out)
             out.append(form.Put(target, "", _fitting(value, target.type), place))
         return
     if isinstance(type_, (Array, Vector)) and not member.whole:

@@ -6,7 +6,7 @@ from .. import tree as t
 from ..effects import is_lending
 from ..places import Place
 from ..refusals import Refused
-from ..types import STRING, Array, Object, Pointer, Reference, Type, Vector, bare, is_scalar
+from ..types import BOOL, STRING, Array, Int, Object, Pointer, Reference, Type, Vector, bare, is_scalar
 from . import calls, cursors, letters, values
 from .context import Body, Container, Cursor, Out
 from .numbers import binary
@@ -206,11 +206,19 @@ def box_of(body: Body, node: t.Expr, out: Out) -> form.Expr | None:
     return None
 
 
+def _is_named_number(node: t.Expr) -> bool:
+    """Whether it is a local, a parameter or a global that may be assigned to while another name of it is read."""
+    return isinstance(node, t.Name) and (isinstance(bare(node.type), Int) or bare(node.type) == BOOL)
+
+
 def bind(body: Body, variable: t.Variable, initial: t.Expr, out: Out, at: Place) -> None:
     """Declares a local reference: another name of a place, a container or an object."""
     type_ = bare(variable.type)
     if is_scalar(type_):
         if isinstance(variable.type, Reference) and variable.type.constant:
+            if _is_named_number(initial):
+                body.bindings[variable] = place(body, initial, out)
+                return
             local = body.local(variable.name, body.shapes.of(type_))
             out.append(form.Let(local, values.value(body, initial, out), at))
             body.bindings[variable] = local

@@ -3,6 +3,7 @@
 from .. import form
 from .. import tree as t
 from ..cursors import walking
+from .. import references
 from ..effects import Effects, lowered_parameters, mark_uses, overriders
 from ..places import Place
 from ..refusals import Refusals, Refused
@@ -19,7 +20,8 @@ from .shapes import Shapes
 class Lowering:
     """One program, from the typed tree to the middle form."""
 
-    def __init__(self, program: t.Program, capacities: dict[str, int]) -> None:
+    def __init__(self, program: t.Program, capacities: dict[str, int], backwards: bool = False) -> None:
+        references.settle(program)
         mark_uses(program)
         refusals = Refusals()
         try:
@@ -32,6 +34,7 @@ class Lowering:
         found = walking(program)
         self.tables = Tables(shapes, Effects(program), Sites(), refusals, bits=known_bits(program))
         self.tables.walking = found
+        self.tables.backwards = backwards
         self.tables.method_of = self.method_of
         self.tables.sites.know({one.value for one in t.everything(program) if isinstance(one, t.Text)})
         self._waiting: list[tuple[t.Function, Kinds]] = []

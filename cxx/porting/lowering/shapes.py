@@ -91,6 +91,7 @@ class Shapes:
             self._slot(cls, slot.name + "_n", form.LONG, origin=name, place=at)
         else:
             slot = self._slot(cls, name, self.parameter(type_), origin=name, place=at)
+            slot.owned = isinstance(type_, Object)
         self._slots[member] = slot.name
 
     def _grow(self, cls: form.Class, slot: form.Slot) -> None:

@@ -100,7 +100,7 @@ def declare(body: Body, variable: t.Variable, out: Out) -> None:
         return
     if is_scalar(type_):
         held = body.shapes.of(type_)
-        value = values.value(body, initial, out) if initial is not None else None
+        value = values.literal(body, initial, type_, out) if initial is not None else None
         if isinstance(value, form.Null) and isinstance(held, form.Pointer):
             value = form.Null(held)
         if variable.lent:
@@ -345,7 +345,7 @@ def _return(body: Body, node: t.Return, out: Out) -> None:
     elif isinstance(result, (Object, Vector)) and isinstance(node.value, t.Copy) and _dies(node.value.operand):
         value = values.pointer_to(body, node.value.operand, out)
     else:
-        value = values.value(body, node.value, out)
+        value = values.literal(body, node.value, bare(result), out)
     held = body.shapes.of(result)
     if isinstance(value, form.Null) and isinstance(held, form.Pointer):
         value = form.Null(held)

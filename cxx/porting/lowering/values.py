@@ -11,7 +11,7 @@ from ..effects import assigned
 from ..places import Place
 from ..refusals import Refused
 from ..sites import EXIT_SITE, Stop
-from ..types import BOOL, STREAM, STRING, VOID, Array, Int, Object, Pointer, Type, Vector, bare, is_scalar
+from ..types import BOOL, STREAM, STRING, VOID, Array, Int, Object, Pointer, Reference, Type, Vector, bare, is_scalar
 from . import calls, cursors, objects, places, vectors
 from .context import Body, Container, Out
 
@@ -20,7 +20,14 @@ from .numbers import (
 )  # fmt: skip
 
 
+# Of a print: text, or a value with its way.
+Part = str | tuple[str, t.Expr]
+
 ORDER = ("a pointer to an object in an order or with arithmetic", "compare numbers that the objects have")
+LETTERS = (
+    "letters of an array or a std::string where a literal string is wanted",
+    "let the parameter be an array, or const std::string &",
+)
 NEW_OBJECTS = ("a new array of objects", "write a vector, or an array of pointers")
 
 
@@ -74,9 +81,38 @@ def _null(body: Body, type_: Type) -> form.Expr:
     return form.Null(held) if isinstance(held, form.Pointer) else form.Number(0)
 
 
-def several(body: Body, nodes: list[t.Expr], out: Out) -> list[form.Expr]:
-    """The values of expressions that are evaluated from left to right."""
-    return [one for one in _ordered(body, [(node, False) for node in nodes], out)]
+def literal(body: Body, node: t.Expr, type_: Type, out: Out) -> form.Expr:
+    """The value for what has the type: a literal string is a number, and no array of letters."""
+    made = value(body, node, out)
+    if type_ == STRING and isinstance(made.type, form.Pointer) and not isinstance(made, form.Null):
+        raise Refused(node.place, *LETTERS)
+    return made
+
+
+def several(body: Body, nodes: list[t.Expr], out: Out, is_open: bool = False) -> list[form.Expr]:
+    """The values of expressions that are evaluated from left to right, or `is_open` says that C++ leaves it open."""
+    if is_open and body.tables.backwards:
+        return _ordered(body, [(node, False) for node in reversed(nodes)], out)[::-1]
+    return _ordered(body, [(node, False) for node in nodes], out)
+
+
+def note_order(body: Body, nodes: list[t.Expr], place: Place) -> None:
+    """Keeps the place of a call where the order of its arguments, which C++ leaves open, may be seen."""
+    changing = [one for one in nodes if body.tables.effects.has_effect(one)]
+    names = {variable for one in changing for variable in assigned(one)}
+    if changing and sum(not _is_still(one, names) for one in nodes) > 1:
+        body.tables.sites.open_orders.append(place)
+
+
+def _is_still(node: t.Expr, changed: set[t.Variable]) -> bool:
+    """Whether the value is surely the same whenever it is computed, where these variables are changed by their names."""
+    if isinstance(node, t.Name):
+        variable = node.variable
+        kept = not (variable.shared or variable.lent or isinstance(variable.type, Reference))
+        return kept and is_scalar(variable.type) and variable not in changed
+    if isinstance(node, t.Convert):
+        return _is_still(node.operand, changed)
+    return isinstance(node, (t.Number, t.Truth, t.Null, t.Text, t.This))
 
 
 def receiver_and(body: Body, receiver: t.Expr, nodes: list[t.Expr], out: Out) -> tuple[form.Expr, list[form.Expr]]:
@@ -370,7 +406,7 @@ def assign(body: Body, node: t.Assign, out: Out, wanted: bool) -> form.Expr:
         return value(body, node.target, out) if wanted else form.Number(0)
     if isinstance(node.target, t.Conditional):
         return _assign_one_of(body, node, node.target, out, wanted)
-    given = value(body, node.value, out)
+    given = literal(body, node.value, type_, out)
     if body.tables.effects.has_effect(node.target):
         given = body.kept(given, out, node.place)
     target = places.place(body, node.target, out)
@@ -444,58 +480,83 @@ def put(body: Body, node: t.Assign, target: form.Target, given: form.Expr, out: 
 
 
 def _print(body: Body, node: t.Print, out: Out) -> None:
-    if any(not isinstance(part, str) and _is_letters(part[1]) for part in node.parts):
-        _print_letters(body, node, out)
-        return
-    ways: list[str | tuple[str]] = []
     nodes = [part[1] for part in node.parts if not isinstance(part, str)]
-    made = several(body, nodes, out)
-    if not node.standard:
+    is_open = all(isinstance(part, str) or part[0].startswith("%") for part in node.parts)
+    if is_open:
+        note_order(body, nodes, node.place)
+    if any(_is_letters(one) for one in nodes):
+        _print_letters(body, node, nodes, out)
         return
+    made = several(body, nodes, out, is_open)
+    if node.standard:
+        _tell(body, node.parts, made, out, node.place)
+
+
+def _tell(body: Body, parts: list[Part], made: list[form.Expr], out: Out, place: Place) -> None:
+    """A print of parts whose values are computed already."""
+    ways: list[str | tuple[str]] = []
     shown: list[form.Expr] = []
-    for part in node.parts:
+    left = iter(made)
+    for part in parts:
         if isinstance(part, str):
             ways.append(part)
             continue
-        one = made.pop(0)
-        if part[0] in ("s", "%s") and isinstance(part[1], t.Text):
+        one = next(left)
+        if part[0] == "%s" and isinstance(part[1], t.Text):
             ways.append(part[1].value)
-            if part[0] == "s":
-                ways[-1] = ("s",)
-                shown.append(one)
             continue
         ways.append((part[0],))
         shown.append(one)
-    out.append(form.Tell(body.tables.sites.add(ways), shown, node.place))
+    out.append(form.Tell(body.tables.sites.add(ways), shown, place))
 
 
 def _is_letters(node: t.Expr) -> bool:
-    """Whether the value is an array of letters, and no literal."""
-    return isinstance(bare(node.type), (Array, Pointer))
+    """Whether the value is an array or a vector of letters, and no literal."""
+    return isinstance(bare(node.type), (Array, Pointer, Vector))
 
 
-def _print_letters(body: Body, node: t.Print, out: Out) -> None:
-    """A print of which a part is an array of letters: those up to a zero, one by one."""
-    before: list[str | tuple[str, t.Expr]] = []
+def _print_letters(body: Body, node: t.Print, nodes: list[t.Expr], out: Out) -> None:
+    """A print of which a part is an array or a vector of letters: those up to a zero, or all, one by one."""
+    made: list[form.Expr | Container] = []
+    for at, one in enumerate(nodes):
+        if _is_letters(one):
+            made.append(places.kept_container(body, places.container(body, one, out), out, node.place))
+        else:
+            made.append(keep_before(body, value(body, one, out), nodes[at + 1 :], out, node.place))
+    if not node.standard:
+        return
+    parts: list[Part] = []
+    values_of: list[form.Expr] = []
     for part in node.parts:
-        if isinstance(part, str) or not _is_letters(part[1]):
-            before.append(part)
+        one_made = made.pop(0) if not isinstance(part, str) else None
+        if isinstance(one_made, Container):
+            if parts:
+                _tell(body, parts, values_of, out, node.place)
+            _print_each(body, part[0], one_made, out, node.place)
+            parts, values_of = [], []
             continue
-        if part[0] not in ("s", "%s") or any(
-            body.tables.effects.has_effect(one[1]) for one in node.parts if not isinstance(one, str)
-        ):
-            raise Refused(part[1].place, "an array of letters that is printed this way", "print it by a %s of its own")
-        _print(body, t.Print(VOID, node.place, before, node.standard), out)
-        before = []
-        held = places.kept_container(body, places.container(body, part[1], out), out, node.place)
-        counter = body.local("k", form.LONG)
-        letter = places.item(body, held, counter)
-        turn: Out = [form.Tell(body.tables.sites.add([("c",)]), [letter], node.place)] if node.standard else []
-        step = form.Put(counter, "+", form.Number(1), node.place)
-        asked = binary("!=", letter, form.Number(0))
-        out.append(form.Count(counter, form.Number(0), asked, step, turn, node.place))
-    if before:
-        _print(body, t.Print(VOID, node.place, before, node.standard), out)
+        parts.append(part)
+        if one_made is not None:
+            values_of.append(one_made)
+    if parts:
+        _tell(body, parts, values_of, out, node.place)
+
+
+def _print_each(body: Body, way: str, held: Container, out: Out, place: Place) -> None:
+    """Letters one by one; where what is written depends on their number, they are gathered first."""
+    sites, nothing = body.tables.sites, form.Number(0)
+    plain = way == "%s"
+    if not plain:
+        out.append(form.Tell(sites.add([("!open",)]), [nothing], place))
+    counter = body.local("k", form.LONG)
+    letter = places.item(body, held, counter)
+    turn: Out = [form.Tell(sites.add([("c",)]), [letter], place)]
+    step = form.Put(counter, "+", form.Number(1), place)
+    counted = held.count is not None
+    asked = binary("<", counter, places.size(held)) if counted else binary("!=", letter, form.Number(0))
+    out.append(form.Count(counter, nothing, asked, step, turn, place))
+    if not plain:
+        out.append(form.Tell(sites.add([("!close" + way.removeprefix("s"),)]), [nothing], place))
 
 
 def _swap(body: Body, node: t.Swap, out: Out) -> None:

@@ -69,6 +69,13 @@ def change_at(body: Body, node: t.VectorCall, held: Container, index: form.Expr,
     _operation(body, held, type_, node.method, arguments, out, node.place, write)
 
 
+def erase_range(body: Body, node: t.VectorCall, held: Container, ends: list[form.Expr], out: Out) -> None:
+    """`erase` of the items from one index up to another."""
+    type_ = bare(node.vector.type)
+    assert isinstance(type_, Vector)
+    _operation(body, held, type_, "erase_range", ends, out, node.place, _erase_range)
+
+
 def _given(node: t.VectorCall) -> list[t.Expr]:
     return [] if node.method == "reserve" else node.arguments
 
@@ -87,6 +94,9 @@ def put_count(body: Body, held: Container, operator: str, value: form.Expr, out:
     assert held.count is not None
     out.append(form.Put(form.Field(held.object, held.count, form.LONG), operator, value, place))
 
+
+# Of the operations that vectors become, what their parameters are called.
+PARAMETERS = {"push": ["item"], "resize": ["length", "item"], "erase_range": ["first", "last"]}
 
 Writer = Callable[[Body, Container, Vector, list[form.Expr], Out, Place], None]
 
@@ -115,7 +125,7 @@ def _operation(
     types = tuple(one.type for one in arguments)
 
     def written(inner: Body) -> None:
-        names = ["item"] if name == "push" else ["length", "item"] if name == "resize" else ["at_index", "item"]
+        names = PARAMETERS.get(name, ["at_index", "item"])
         given: list[form.Expr] = [inner.parameter(one, type_of) for one, type_of in zip(names, types)]
         mine = Container(inner.this, held.items, held.count, held.of)
         write(inner, mine, type_, given, inner.method.body, place)
@@ -163,6 +173,17 @@ def _erase(body: Body, held: Container, type_: Vector, given: list[form.Expr], o
     move = form.Put(places.item(body, held, counter), "", places.item(body, held, following), place)
     out.append(form.Count(counter, given[0], binary("<", following, places.size(held)), step, [move], place))
     put_count(body, held, "-", form.Number(1), out, place)
+
+
+def _erase_range(body: Body, held: Container, type_: Vector, given: list[form.Expr], out: Out, place: Place) -> None:
+    """The items behind move to the front, by the number of those that go."""
+    counter = body.local("k", form.LONG)
+    gap = body.kept(binary("-", given[1], given[0]), out, place)
+    following = binary("+", counter, gap)
+    step = form.Put(counter, "+", form.Number(1), place)
+    move = form.Put(places.item(body, held, counter), "", places.item(body, held, following), place)
+    out.append(form.Count(counter, given[0], binary("<", following, places.size(held)), step, [move], place))
+    put_count(body, held, "-", gap, out, place)
 
 
 def _insert(body: Body, held: Container, type_: Vector, given: list[form.Expr], out: Out, place: Place) -> None:

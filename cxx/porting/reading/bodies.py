@@ -9,7 +9,7 @@ from .. import tree as t
 from ..clang import Node, Unit, children
 from ..places import Place
 from ..refusals import FAULTS, NOT_KNOWN, Refusals, Refused, Unported
-from ..types import BOOL, STREAM, VOID, Array, Object, Vector, bare
+from ..types import BOOL, STREAM, VOID, Array, Int, Object, Pointer, Type, Vector, bare
 from .declarations import Declarations, is_known
 from .expressions import ExpressionReader
 from . import library
@@ -30,10 +30,11 @@ REFUSED = {
 }
 
 
-def read_program(unit: Unit) -> tuple[t.Program, Refusals]:
-    """The program of a unit, without the statements that are refused."""
+def read_program(unit: Unit, arguments: bool = False) -> tuple[t.Program, Refusals]:
+    """The program of a unit, without the statements that are refused; where `arguments` is true, main may have some,
+    and is read as what a run without any does."""
     try:
-        reader = BodyReader(Declarations(unit))
+        reader = BodyReader(Declarations(unit), arguments)
     except Refused as refused:
         raise Unported([str(refused)]) from None
     return reader.program(), reader.refusals
@@ -42,8 +43,9 @@ def read_program(unit: Unit) -> tuple[t.Program, Refusals]:
 class BodyReader:
     """Reads what main reaches: bodies, and first values of what lives as long as the program."""
 
-    def __init__(self, declared: Declarations) -> None:
+    def __init__(self, declared: Declarations, arguments: bool) -> None:
         self.declared = declared
+        self.arguments = arguments
         self.refusals = declared.refusals
         self._waiting: list[t.Function] = []
         self._reached: set[t.Function] = set()
@@ -69,11 +71,14 @@ class BodyReader:
         return self.declared.unit.place(node)
 
     def program(self) -> t.Program:
-        main = next((one for one in self.declared.functions.values() if one.name == "main" and one.owner is None), None)
+        outside = {str(node.get("id")) for node in children(self.declared.unit.root)}
+        functions = self.declared.functions.items()
+        main = next((one for number, one in functions if one.name == "main" and number in outside), None)
         if main is None or not self.declared.has_body(main):
             self.refusals.raise_if_any()
             raise Unported(["the program has no main; name the file that has it, too"])
-        if main.parameters:
+        arguments, main.parameters = main.parameters, []
+        if arguments and not self.arguments:
             self.refusals.add(
                 Refused(main.place, "main with arguments", "write int main(), with constants: a run has no input")
             )
@@ -85,9 +90,11 @@ class BodyReader:
                 self._initial(member)
         while self._waiting:
             self._function(self._waiting.pop())
+        if main.body is not None:
+            main.body.steps[:0] = [_without_arguments(one) for one in arguments]
         self._types()
         variables = [one for one in self.declared.globals if one.constant is None]
-        return t.Program(main, self.declared.records, self.functions, variables + self.statics)
+        return t.Program(main, self.declared.records, self.functions, variables + self.statics, bool(arguments))
 
     def _types(self) -> None:
         """Refuses the types that aren't known of what isn't named anywhere, but is there."""
@@ -300,11 +307,34 @@ class BodyReader:
         items = library.items_of(self.expressions.read(children(children(parts[1])[0])[0]))
         variable = self.declared.variable(children(parts[6])[0], False)
         variable.initial = None
+        if _is_list(items.type):
+            inside.append(self._links(variable, items, parts, place))
+            out.append(t.Block(place, inside))
+            return
         if not isinstance(bare(items.type), (Array, Vector)):
             self._range(parts, place, out, inside)
             return
         inside.append(t.Each(place, variable, items, self.block(parts[7])))
         out.append(t.Block(place, inside) if len(inside) > 1 else inside[0])
+
+    def _links(self, variable: t.Variable, items: t.Expr, parts: list[Node], place: Place) -> t.Statement:
+        """Over the library's list: along its links."""
+        type_ = bare(items.type)
+        assert isinstance(type_, Object)
+        first = type_.record.members[0]
+        link = bare(first.type)
+        assert isinstance(link, Pointer) and isinstance(link.to, Object)
+        value, _, after = link.to.record.members
+        at = t.Variable("at", link, place, initial=t.Dot(link, place, items, first))
+        here = t.Name(link, place, at)
+        item = t.Deref(link.to, place, here)
+        variable.initial = t.Dot(bare(value.type), place, item, value)
+        if isinstance(variable.type, (Object, Vector)):
+            variable.initial = t.Copy(variable.type, place, variable.initial)
+        step = t.Assign(link, place, here, "", t.Dot(link, place, item, after), link)
+        body: list[t.Statement] = [t.Declare(place, variable), self.block(parts[7])]
+        first_step: list[t.Statement] = [t.Declare(place, at)]
+        return t.For(place, t.Block(place, first_step), t.Convert(BOOL, place, here), step, t.Block(place, body))
 
     def _range(self, parts: list[Node], place: Place, out: list[t.Statement], inside: list[t.Statement]) -> None:
         """Over an object with `begin` and `end`: the loop that C++ says it is."""
@@ -362,3 +392,16 @@ class BodyReader:
             return int(value.value)
         assert isinstance(value, t.Number)
         return value.value
+
+
+def _without_arguments(parameter: t.Variable) -> t.Statement:
+    """A parameter of main as what it is in a run without arguments: their number is one, of the program's name."""
+    place, type_ = parameter.place, parameter.type
+    parameter.initial = t.Number(type_, place, 1) if isinstance(type_, Int) else t.Null(type_, place)
+    return t.Declare(place, parameter)
+
+
+def _is_list(type_: Type) -> bool:
+    """Whether it is the library's list."""
+    held = bare(type_)
+    return isinstance(held, Object) and held.record.library and held.record.name.startswith("list_")

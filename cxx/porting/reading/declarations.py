@@ -15,6 +15,8 @@ from ..types import INT, STREAM, VOID, Int, Object, Pointer, Reference, Type, Ty
 
 NAMESPACES = ("TranslationUnitDecl", "NamespaceDecl", "LinkageSpecDecl")
 ALIASES = ("TypedefDecl", "TypeAliasDecl")
+# Classes of the library that are read by their names, and never as C++.
+BY_THEIR_NAMES = ("vector", "initializer_list", "string", "unique_ptr", "shared_ptr", "weak_ptr", "inserted_")
 METHODS = ("CXXMethodDecl", "CXXConstructorDecl", "CXXConversionDecl", "CXXDestructorDecl")
 
 
@@ -41,7 +43,7 @@ class Declarations:
     initials: dict[Variable | Member, Node] = field(default_factory=dict)
     variable_nodes: dict[Variable, Node] = field(default_factory=dict)
     refusals: Refusals = field(default_factory=Refusals)
-    # By the number of a vector's `emplace_back`, that of the function that makes its item.
+    # By the number of a vector's method that is a template, that of the function of the stub header that does it.
     emplacing: dict[str, str] = field(default_factory=dict)
     # Variables of which no file of the program has the definition.
     undefined: set[Variable] = field(default_factory=set)
@@ -61,6 +63,10 @@ class Declarations:
         self._unnamed: dict[str, Type] = {}
         self._nested: dict[Record, dict[str, Type | str]] = {}
         self._outer: dict[Record, Record | None] = {}
+        # By the name of a class template the arguments that it has where none are given.
+        self._defaults: dict[str, list[str]] = {}
+        # Constructors of vectors from a range: the spelling of the item, their types, the function that does it.
+        self._ranged: list[tuple[str, str, str]] = []
         self._pending: list[tuple[Node, Record | None]] = []
         self._static: list[tuple[Node, Record | None]] = []
         for node in children(self.unit.root):
@@ -132,8 +138,9 @@ class Declarations:
 
     def _instance(self, text: str) -> Type | None:
         at = text.index("<")
-        given = [self._argument(one) for one in _arguments(text[at + 1 : -1])]
         name = text[:at].split("::")[-1].strip()
+        spelled = _arguments(text[at + 1 : -1]) if text[at + 1 : -1].strip() else self._defaults.get(name, [])
+        given = [self._argument(one) for one in spelled]
         for instance in self._instances.get(name, []):
             if [self._argument(one) for one in instance.arguments[: len(given)]] == given:
                 return Object(instance.record)
@@ -156,9 +163,7 @@ class Declarations:
             if node.get("completeDefinition") and not node.get("definitionData", {}).get("isLambda"):
                 self._record(node, scope, owner)
         elif kind == "ClassTemplateDecl":
-            for child in children(node):
-                if child["kind"] == "ClassTemplateSpecializationDecl":
-                    self._gather(child, scope)
+            self._template(node, scope)
         elif kind == "FunctionTemplateDecl" and not (name.startswith("operator") and self._of_pointers(node)):
             for child in children(node):
                 if any(one["kind"] == "TemplateArgument" for one in children(child)):
@@ -185,6 +190,15 @@ class Declarations:
         elif kind == "VarDecl":
             self._static.append((node, owner))
             self._local_types(node)
+
+    def _template(self, node: Node, scope: str) -> None:
+        """The instances of a class template, and its arguments where none are given."""
+        for child in children(node):
+            if child["kind"] == "ClassTemplateSpecializationDecl":
+                self._gather(child, scope)
+            elif "defaultArg" in child:
+                given = self._defaults.setdefault(node.get("name", ""), [])
+                given.append(_spelled_argument(child["defaultArg"]))
 
     def _of_pointers(self, node: Node) -> bool:
         """Whether a template of the library compares pointers that own, which are plain pointers here."""
@@ -242,8 +256,8 @@ class Declarations:
         shown = name + ("_" + "_".join(arguments) if arguments else "")
         record = Record(re.sub(r"\W+", "_", shown).strip("_"), self.unit.name_place(node))
         record.library = self.unit.is_library(node)
-        if record.library and name in ("vector", "initializer_list", "string", "unique_ptr", "shared_ptr"):
-            self._emplacing(node)
+        if record.library and name in BY_THEIR_NAMES:
+            self._emplacing(node, arguments)
             return
         self.records.append(record)
         self.record_nodes[record] = node
@@ -258,15 +272,23 @@ class Declarations:
             if not child.get("isImplicit") or child.get("kind") in METHODS:
                 self._gather(child, scope + name + "::", record)
 
-    def _emplacing(self, node: Node) -> None:
-        """What each `emplace_back` of a vector calls to make the item."""
+    def _emplacing(self, node: Node, arguments: list[str]) -> None:
+        """What each method of a vector that is a template calls to do it, and each constructor from a range."""
         for template in children(node):
-            if template.get("name") == "emplace_back":
-                for method in children(template):
-                    calls = [one for one in walk(method) if one["kind"] == "CallExpr"]
-                    if method["kind"] == "CXXMethodDecl" and calls:
-                        named = [one for one in walk(children(calls[0])[0]) if one["kind"] == "DeclRefExpr"]
-                        self.emplacing[method["id"]] = named[0]["referencedDecl"]["id"]
+            if template.get("name", "").split("<")[0] not in ("emplace_back", "vector", "insert", "assign"):
+                continue
+            for method in children(template):
+                calls = [one for one in walk(method) if one["kind"] == "CallExpr"]
+                named = [one for call in calls[:1] for one in walk(children(call)[0]) if one["kind"] == "DeclRefExpr"]
+                if method["kind"] == "CXXMethodDecl" and named:
+                    self.emplacing[method["id"]] = named[0]["referencedDecl"]["id"]
+                elif method["kind"] == "CXXConstructorDecl" and named:
+                    self._ranged.append((arguments[0], _signature(method), named[0]["referencedDecl"]["id"]))
+
+    def from_range(self, item: Type, signature: str) -> Function | None:
+        """The function of the stub header that makes a vector of what is from a first place to a last one."""
+        found = [one for spelled, of, one in self._ranged if of == _plain(signature) and self.types(spelled) == item]
+        return self.functions.get(found[0]) if found else None
 
     def _enum(self, node: Node, scope: str, owner: Record | None) -> None:
         fixed = node.get("fixedUnderlyingType")

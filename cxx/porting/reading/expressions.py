@@ -223,6 +223,10 @@ class ExpressionReader:
             constant = self._constant(static, node["type"]["qualType"])
             return constant if constant is not None else t.Name(self.type(node), place, static)
         member = self.declared.members.get(node["referencedMemberDecl"])
+        if member is None and self.declared.type_of(base) == BOOL:
+            if node["name"] == "second":
+                return self.read(base)
+            raise Refused(place, "the place that insert gives", "ask find for it")
         if member is None:
             raise Refused(place, f"the member {node['name']}, which isn't known", "write it another way")
         if not is_known(member.type):
@@ -315,6 +319,12 @@ class ExpressionReader:
             bare(result), self.place(node), function, None if function.static else receiver, arguments, virtual
         )
 
+    def by_header(self, name: str, type_: Type, place: Place, *arguments: t.Expr) -> t.Expr:
+        """A call of a function that a stub header has for what is read as such calls."""
+        function = next(one for one in self.declared.functions.values() if one.name == name and one.library)
+        self.reached(function)
+        return t.Call(type_, place, function, None, [*arguments])
+
     def arguments(self, function: t.Function, given: list[Node]) -> list[t.Expr]:
         read = []
         for parameter, node in zip(function.parameters, given):
@@ -327,11 +337,16 @@ class ExpressionReader:
 
     def _call(self, node: Node) -> t.Expr:
         callee, given, place = self.callee(children(node)[0]), children(node)[1:], self.place(node)
+        if callee["kind"] == "MemberExpr" and callee["referencedMemberDecl"] in self.declared.functions:
+            # A static member function that is called by an object.
+            return self.called(self.declared.functions[callee["referencedMemberDecl"]], None, given, node)
         if callee["kind"] != "DeclRefExpr" or callee["referencedDecl"]["kind"] not in ("FunctionDecl", "CXXMethodDecl"):
             raise Refused(place, "a call through a pointer", "call the function by its name, or write a virtual method")
         told = callee["referencedDecl"]
         function = self.declared.functions.get(told["id"])
-        known = function is not None and function.library and function.name in library.BY_NAME
+        known = (
+            function is not None and function.library and function.owner is None and function.name in library.BY_NAME
+        )
         if (
             function is None
             or known
@@ -405,6 +420,8 @@ class ExpressionReader:
             return folded(t.Convert(made, place, first_given))
         if made == STRING:
             return self.read(given[0]) if given else t.Text(STRING, place, "")
+        if made == BOOL:
+            return self.read(given[0])
         if isinstance(made, Vector):
             return library.vector(self, made, [one for one in given if one["kind"] != "CXXDefaultArgExpr"], node)
         if not isinstance(made, Object):
@@ -422,7 +439,7 @@ class ExpressionReader:
         if is_copying(function) and not self.declared.is_written(function):
             return t.Copy(made, place, self.read(given[0]))
         self.reached(function)
-        return t.Construct(made, place, function, self.arguments(function, given))
+        return t.Construct(made, place, function, self.arguments(function, given), bool(node.get("list")))
 
     def type_construct(self, made: Array, node: Node, place: Place) -> list[t.Expr | None]:
         """The items of an array that one constructor makes."""
@@ -472,8 +489,20 @@ class ExpressionReader:
             initial = self.read(given[0]) if given else None
             return t.New(made, place, initial)
         length = self.read(given[0])
+        if isinstance(made, Pointer) and isinstance(made.to, Object):
+            self._each_made(made.to, given[1:])
+            return t.New(made, place, None, length)
         initial = self.read(given[1]) if len(given) > 1 and given[1]["kind"] != "ImplicitValueInitExpr" else None
         return t.New(made, place, initial, length)
+
+    def _each_made(self, of: Object, given: list[Node]) -> None:
+        """The constructor without arguments that makes each object of a new array."""
+        for one in given:
+            if one["kind"] not in ("CXXConstructExpr", "ImplicitValueInitExpr"):
+                raise Refused(self.place(one), "a list of new objects", "write a vector, or fill the array by a loop")
+            function = self.declared.constructor(of.record, one.get("ctorType", {}).get("qualType", ""))
+            if function is not None:
+                self.reached(function)
 
 
 def _bytes(type_: Type) -> int | None:

@@ -7,10 +7,10 @@ from .. import tree as t
 from ..clang import Node, children
 from ..folding import COMPARED
 from ..places import Place
-from ..refusals import Refused
+from ..refusals import PutTogether, Refused
 
 from ..types import (
-    BOOL, INT, STREAM, STRING, UNSIGNED_LONG, VOID, Array, Int, Object, Pointer, Reference, Type, Unknown, Vector, bare,
+    BOOL, INT, NUMBERS, STREAM, STRING, UNSIGNED_LONG, VOID, Array, Int, Object, Pointer, Reference, Type, Unknown, Vector, bare,
 )  # fmt: skip
 from . import output
 from .declarations import unknown_in
@@ -50,13 +50,14 @@ def call(reader: "ExpressionReader", name: str, given: list[Node], node: Node, f
         return t.Ignored(VOID, place, [])
     if name in ("printf", "puts", "putchar", "fprintf"):
         return output.printed(reader, name, given, node)
+    if name in ("sprintf", "snprintf"):
+        return output.put_together(reader, name, given, node)
     if name in ("max", "min"):
-        if len(given) != 2:
-            raise Refused(place, f"{name} of a list or with a comparison", f"write {name} of two numbers, or a loop")
         type_ = bare(reader.type(node))
-        if not isinstance(type_, Int):
-            raise Refused(place, f"{name} of what isn't a number", "write a condition")
-        return t.Built(type_, place, name, [reader.read(one) for one in given])
+        if len(given) == 2 and isinstance(type_, Int):
+            return t.Built(type_, place, name, [reader.read(one) for one in given])
+        assert function is not None
+        return reader.called(function, None, given, node)
     if name in ("abs", "labs", "llabs") and len(given) == 1:
         return t.Built(reader.type(node), place, "abs", [reader.read(given[0])])
     if name == "swap" and len(given) == 2:
@@ -74,7 +75,8 @@ def call(reader: "ExpressionReader", name: str, given: list[Node], node: Node, f
         assert isinstance(text, t.Text)
         return t.Stop(VOID, place, None, text.value)
     if name == "to_string":
-        raise Refused(place, "a number as a string", "print the number itself")
+        reader.read(given[0])
+        raise PutTogether(place)
     if name == "free":
         return t.Ignored(VOID, place, [reader.read(given[0])])
     raise Refused(place, f"a call of {name}, whose body isn't here", "write the function, or name the file that has it")
@@ -92,10 +94,23 @@ def method(reader: "ExpressionReader", receiver: t.Expr, name: str, given: list[
         return _of_pointer(reader, receiver, of, name, given, node)
     if of == STRING:
         return _of_string(reader, receiver, name, given, node)
+    if name in ("c_str", "data") and isinstance(of, Object):
+        ended = next((one for one in of.record.functions if one.name == "ended_" and one.library), None)
+        if ended is not None:
+            reader.reached(ended)
+            return t.Call(bare(ended.result), place, ended, receiver, [])
     if not isinstance(of, Vector):
         raise Refused(
             place, f"a call of {name.replace('operator', 'operator ')}", "write a method or a function of your own"
         )
+    return _of_vector(reader, receiver, of, name, given, node)
+
+
+def _of_vector(
+    reader: "ExpressionReader", receiver: t.Expr, of: Vector, name: str, given: list[Node], node: Node
+) -> t.Expr:
+    """A method of a vector."""
+    place = reader.place(node)
     if name in ("operator[]", "at"):
         return t.Item(of.of, place, receiver, reader.read(given[0]))
     if name == "front":
@@ -106,8 +121,11 @@ def method(reader: "ExpressionReader", receiver: t.Expr, name: str, given: list[
         return t.Swap(VOID, place, receiver, reader.read(given[0]))
     if name == "shrink_to_fit":
         return t.Ignored(VOID, place, [])
-    if name == "assign" and not isinstance(reader.type(given[0]), Int):
-        raise Refused(place, "vector's assign of a range", "clear it, and fill it by a loop")
+    if name == "assign" and len(given) == 2 or name == "insert" and len(given) == 3:
+        done = _done_by(reader, node)
+        if done is not None:
+            reader.reached(done)
+            return t.Call(VOID, place, done, None, [receiver, *(reader.read(one) for one in given)])
     if name in ("erase", "insert"):
         return _at_iterator(reader, receiver, of, name, given, node)
     if name not in VECTOR_METHODS:
@@ -130,8 +148,10 @@ def _of_pointer(
 ) -> t.Expr:
     """A method of a pointer that owns, which is a plain pointer here."""
     place, operator = reader.place(node), name.replace("operator", "").strip()
-    if name in ("get", "operator->"):
+    if name in ("get", "operator->", "lock"):
         return receiver
+    if name == "expired":
+        return t.Binary(BOOL, place, "==", receiver, t.Null(of, place))
     if operator == "*":
         return t.Deref(of.to, place, receiver)
     if operator == "bool":
@@ -154,15 +174,29 @@ def _of_string(reader: "ExpressionReader", receiver: t.Expr, name: str, given: l
         return receiver
     if name == "empty":
         return t.Binary(BOOL, place, "==", receiver, t.Text(STRING, place, ""))
+    if name in ("size", "length"):
+        return _length(reader, receiver, place)
+    if name == "begin":
+        return receiver
+    if name == "end":
+        return t.Binary(STRING, place, "+", receiver, _length(reader, receiver, place))
+    if name in ("operator[]", "at", "front"):
+        index = reader.read(given[0]) if given else t.Number(UNSIGNED_LONG, place, 0)
+        return t.Item(NUMBERS["char"], place, receiver, index)
     if operator in COMPARED:
         return t.Binary(BOOL, place, operator, receiver, reader.read(given[0]))
-    raise Refused(place, f"string's {operator}", "write literal strings, which are kept, compared and printed")
+    raise PutTogether(place)
+
+
+def _length(reader: "ExpressionReader", string: t.Expr, place: Place) -> t.Expr:
+    """The length of a string: counted by a function of the stub header."""
+    return reader.by_header("length_", UNSIGNED_LONG, place, string)
 
 
 def items_of(items: t.Expr) -> t.Expr:
-    """What a loop over the items goes over: of the library's array the array in it."""
+    """What a loop over the items goes over: of the library's array the array in it, of a string its letters."""
     type_ = bare(items.type)
-    if isinstance(type_, Object) and type_.record.library and type_.record.name.startswith("array_"):
+    if isinstance(type_, Object) and type_.record.library and re.match(r"array_|text$", type_.record.name):
         member = type_.record.members[0]
         return t.Dot(member.type, items.place, items, member)
     return items
@@ -172,8 +206,7 @@ def _emplaced(reader: "ExpressionReader", item: Type, given: list[Node], node: N
     """The item that `emplace_back` adds: what is given, or what a constructor makes of it."""
     if len(given) == 1 and bare((only := reader.read(given[0])).type) == item:
         return only
-    method = reader.callee(children(node)[0]).get("referencedMemberDecl", "")
-    function = reader.declared.functions.get(reader.declared.emplacing.get(str(method), ""))
+    function = _done_by(reader, node)
     if function is None:
         raise Refused(
             reader.place(node), "emplace_back with the arguments of a constructor", "write push_back(Item(..))"
@@ -181,25 +214,30 @@ def _emplaced(reader: "ExpressionReader", item: Type, given: list[Node], node: N
     return reader.called(function, None, given, node)
 
 
+def _done_by(reader: "ExpressionReader", node: Node) -> t.Function | None:
+    """The function of the stub header that does what a method of a vector that is a template does."""
+    method = reader.callee(children(node)[0]).get("referencedMemberDecl", "")
+    return reader.declared.functions.get(reader.declared.emplacing.get(str(method), ""))
+
+
 def _at_iterator(
     reader: "ExpressionReader", receiver: t.Expr, of: Vector, name: str, given: list[Node], node: Node
 ) -> t.Expr:
-    """`v.erase(at)` and `v.insert(at, x)`."""
-    if len(given) != {"erase": 1, "insert": 2}[name]:
-        raise Refused(
-            reader.place(node),
-            f"vector's {name} of this form",
-            f"write v.{name}(v.begin() + i{', x' if name == 'insert' else ''})",
-        )
+    """`v.erase(at)`, `v.erase(first, last)` and `v.insert(at, x)`."""
+    if name == "insert" and len(given) != 2:
+        raise Refused(reader.place(node), "vector's insert of this form", "write v.insert(v.begin() + i, x)")
     arguments = [reader.read(one) for one in given]
     return t.VectorCall(Pointer(of.of), reader.place(node), name, receiver, arguments)
 
 
 def vector(reader: "ExpressionReader", made: Vector, given: list[Node], node: Node) -> t.Expr:
-    """A vector that is made: empty, a copy, of a length, from a list."""
+    """A vector that is made: empty, a copy, of a length, from a list, from a range."""
     place = reader.place(node)
     if not given:
         return t.Aggregate(made, place, [])
+    ranged = reader.declared.from_range(made.of, node["ctorType"]["qualType"]) if len(given) == 2 else None
+    if ranged is not None:
+        return reader.called(ranged, None, given, node)
     values = [reader.read(one) for one in given]
     first = values[0]
     if isinstance(first, t.Aggregate) and len(values) == 1:

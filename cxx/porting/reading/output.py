@@ -15,7 +15,10 @@ from .. import tree as t
 from ..clang import Node, children
 from ..places import Place
 from ..refusals import Refused
-from ..types import BOOL, INT, STREAM, STRING, VOID, Array, Int, Pointer, Type, bare
+
+from ..types import (
+    BOOL, INT, LONG, NUMBERS, STREAM, STRING, UNSIGNED_LONG, VOID, Array, Int, Pointer, Type, Vector, bare,
+)  # fmt: skip
 
 if TYPE_CHECKING:
     from .expressions import ExpressionReader
@@ -81,7 +84,7 @@ def printed(reader: "ExpressionReader", name: str, given: list[Node], node: Node
         return made
     if name == "putchar":
         return t.Print(VOID, place, [("c", reader.read(given[0]))])
-    format_ = reader.read(given[0])
+    format_ = letters_of(reader.read(given[0]))
     if name == "puts":
         if isinstance(format_, t.Text):
             return t.Print(VOID, place, [format_.value + "\n"])
@@ -109,7 +112,7 @@ def _parts(
             continue
         if not values:
             raise Refused(place, "a format with too few values", "write a value for each %")
-        value = values.pop(0)
+        value = letters_of(values.pop(0))
         if (kind == "s") != (value.type == STRING or _is_letters(value.type)):
             raise Refused(value.place, "a value that its format doesn't fit", NEEDED[0])
         if kind == "c" or kind == "s":
@@ -119,10 +122,52 @@ def _parts(
     return parts
 
 
+def letters_of(value: t.Expr) -> t.Expr:
+    """What is printed: of a string that is put together, and whose letters are asked for, these as they are."""
+    if isinstance(value, t.Call) and value.function.library and value.function.name == "ended_" and value.receiver:
+        member = bare(value.receiver.type).record.members[0]  # type: ignore[union-attr]
+        return t.Dot(member.type, value.place, value.receiver, member)
+    return value
+
+
+def put_together(reader: "ExpressionReader", name: str, given: list[Node], node: Node) -> t.Expr:
+    """sprintf or snprintf: the parts of its format, one behind the other."""
+    place = reader.place(node)
+    first = 2 if name == "snprintf" else 1
+    format_ = reader.read(given[first])
+    if not isinstance(format_, t.Text):
+        raise Refused(place, "a format that is no literal string", "write the format where it is used")
+    at: t.Expr = t.Number(LONG, place, 0)
+    for part in _parts(reader, format_, [reader.read(one) for one in given[first + 1 :]], place):
+        at = _put(reader, [reader.read(given[0]), at], part, place)
+    return reader.by_header("end_at_", INT, place, reader.read(given[0]), at)
+
+
+def _put(reader: "ExpressionReader", where: list[t.Expr], part: str | tuple[str, t.Expr], place: Place) -> t.Expr:
+    """A part of a format put into letters at a place; the place behind it."""
+    if isinstance(part, str):
+        return reader.by_header("text_at_", LONG, place, *where, t.Text(STRING, place, part), t.Number(LONG, place, 0))
+    found = re.match(r"%(-?)(0?)(\d*)([a-zA-Z])(\d*)$", part[0])
+    if found is None:
+        raise Refused(part[1].place, "this format of sprintf", "write %d, %u, %x, %c or %s, with a width at most")
+    left, zeros, width, letter, bits = found.groups()
+    wide = t.Number(LONG, place, int(width or 0) * (-1 if left else 1))
+    if letter == "c":
+        return reader.by_header("letter_at_", LONG, place, *where, t.Convert(NUMBERS["char"], place, part[1]))
+    if letter == "s":
+        return reader.by_header("text_at_", LONG, place, *where, part[1], wide)
+    signed = letter in "di"
+    value = t.Convert(LONG if signed else UNSIGNED_LONG, place, t.Convert(Int(int(bits), signed), place, part[1]))
+    base = t.Number(UNSIGNED_LONG, place, {"x": 16, "o": 8}.get(letter, 10))
+    zeros_wanted = t.Truth(BOOL, place, bool(zeros))
+    name = "signed_at_" if signed else "unsigned_at_"
+    return reader.by_header(name, LONG, place, *where, value, base, wide, zeros_wanted)
+
+
 def _is_letters(type_: Type) -> bool:
-    """Whether it is an array of letters, or a pointer to one."""
+    """Whether it is an array or a vector of letters, or a pointer to one."""
     type_ = bare(type_)
-    of = type_.of if isinstance(type_, Array) else type_.to if isinstance(type_, Pointer) else None
+    of = type_.of if isinstance(type_, (Array, Vector)) else type_.to if isinstance(type_, Pointer) else None
     return isinstance(of, Int) and of.letter
 
 
@@ -201,7 +246,7 @@ def _part(reader: "ExpressionReader", node: Node, done: list[t.Expr]) -> None:
             value = reader.read(children(named)[1])
             done.append(t.Print(VOID, place, [("!" + called, value)]))
             return
-    value = reader.read(node)
+    value = letters_of(reader.read(node))
     if isinstance(value, t.Text):
         done.append(t.Print(VOID, place, [("s", value)]))
         return
@@ -227,6 +272,8 @@ def on_stream(reader: "ExpressionReader", name: str, given: list[Node], place: P
     """A method of a stream."""
     if name == "put":
         return t.Print(VOID, place, [("c", reader.read(given[0]))])
+    if name == "write_":
+        return t.Print(VOID, place, [("s", reader.read(given[0]))])
     if name == "flush":
         return t.Ignored(VOID, place, [])
     if name == "width":

@@ -7,28 +7,22 @@ from .. import form
 from . import facts
 
 ADDING = ("+", "-", "&", "|", "^")
+BOTH_WAYS = ("+", "&", "|", "^", "max", "min", "||", "&&")
+VALUE = "a value"
 
 
 def gathers(body: list[form.Statement], local: form.Local) -> bool:
     """Whether the statements, each as often as may be, leave the same in the local in every order, as far as the local goes."""
     puts = [one for one in form.statements(body) if isinstance(one, form.Put) and one.target == local]
-    asked = 0
-    ways: set[str] = set()
-    for one in puts:
-        way = _way(one, local)
-        if way is None:
-            return False
-        ways.add(way)
-        asked += 1 + (way in ("max", "min"))
-    for other in form.statements(body):
-        way = _guarded(other, local)
-        if way is not None:
-            # (its update was met above, as one that puts a value)
-            ways.add(way)
-            ways.discard("value")
-            asked += 1
+    guarded = [_guarded(one, local) for one in form.statements(body)]
+    ways = [_way(one, local) for one in puts]
+    # (an update under its guard is one that puts a value)
+    under = [one for one in guarded if one is not None]
+    if None in ways or ways.count(VALUE) != len(under):
+        return False
+    asked = sum(1 + facts.mentions(one.value, local) for one in puts) + len(under)
     uses = sum(1 for part in form.expressions(body) if part == local)
-    return uses == asked and len(ways) == 1
+    return uses == asked and len({*ways, *under} - {VALUE}) == 1
 
 
 def _way(one: form.Put, local: form.Local) -> str | None:
@@ -38,11 +32,13 @@ def _way(one: form.Put, local: form.Local) -> str | None:
     if one.operator:
         return None
     match one.value:
-        case form.Binary("max" | "min" as name, left, right, _) if (left == local) != (right == local):
-            return name
+        case form.Binary(operator, left, right, _) if operator in BOTH_WAYS and (left == local) != (right == local):
+            return None if facts.mentions(right if left == local else left, local) else operator
+        case form.Binary("-", left, right, _) if left == local:
+            return None if facts.mentions(right, local) else "+"
         case form.Number() | form.Truth() | form.Null():
             return f"value {one.value}"
-    return None if facts.mentions(one.value, local) else "value"
+    return None if facts.mentions(one.value, local) else VALUE
 
 
 def _guarded(one: form.Statement, local: form.Local) -> str | None:

@@ -1,15 +1,27 @@
 """Not proved (README.md). What the search tries on a loop, on a recursion, and on a function that only computes: rewrites in a row."""
 
+from dataclasses import dataclass
 from typing import Callable
 
 from .. import form
-from . import aliases, extremes, gather, group, guard, handed, opaque, order, receiver, sums, turn, values, walk
+
+from . import (
+    aliases, extremes, gather, given, group, guard, handed, opaque, order, owner, receiver, seek, sums, turn, values, walk, zeros,
+)  # fmt: skip
 from .building import Shape
-from .facts import reached
+from .facts import effects, reached
 
 Block = list[form.Statement]
 LoopAction = Callable[[Shape, form.Method, Block, form.Statement], bool]
 MethodAction = Callable[[Shape, form.Method], form.Method | None]
+
+
+@dataclass(frozen=True)
+class OfLoop:
+    """An action on a loop, and whether it may do anything there, which takes no copy of the program to tell."""
+
+    may: Callable[[form.Statement], bool]
+    do: LoopAction
 
 
 def sites(shape: Shape) -> list[tuple[form.Method, Block, form.Statement]]:
@@ -31,7 +43,9 @@ def sites(shape: Shape) -> list[tuple[form.Method, Block, form.Statement]]:
 
 def tidy(shape: Shape, method: form.Method) -> None:
     """What gives an operation the form that is compared: a section, then calls."""
+    written = effects(method.body).writes
     for one in [method, *reached(method.body)]:
+        given.all_of(shape, one, written)
         aliases.all_of(shape, one)
         extremes.all_of(shape, one)
         values.loops(shape, one)
@@ -117,6 +131,25 @@ def _gathered(shape: Shape, method: form.Method, block: Block, loop: form.Statem
     return True
 
 
+def _sought(lifts: bool) -> LoopAction:
+    """The number of a walk first, and then its owner; each walk that gathers becomes a recursion."""
+
+    def action(shape: Shape, method: form.Method, block: Block, loop: form.Statement) -> bool:
+        walks = seek.sought(shape, method, block, loop)
+        return bool(walks) and all([_walked(lifts)(shape, method, block, one) for one in walks])
+
+    return action
+
+
+def _behind(change: LoopAction, then: LoopAction) -> LoopAction:
+    """A change of the loop itself, and then an action."""
+
+    def action(shape: Shape, method: form.Method, block: Block, loop: form.Statement) -> bool:
+        return change(shape, method, block, loop) and then(shape, method, block, loop)
+
+    return action
+
+
 def _then(before: LoopAction, change: Callable[[Shape, form.Method], bool]) -> LoopAction:
     """An action, and then a change of all that the loop reaches; whether that did anything."""
 
@@ -129,11 +162,35 @@ def _then(before: LoopAction, change: Callable[[Shape, form.Method], bool]) -> L
     return action
 
 
-LOOPS: list[LoopAction] = [
-    _tidied, _turned(True, False), _turned(True, True), _turned(False, False), _turned(False, True), _walked(False), _walked(True),
-    _then(_tidied, opaque.all_of), _then(_turned(True, True), opaque.all_of),
-    _then(_tidied, values.flattened), _then(_turned(True, True), values.flattened),
-    _gathered,
+def _is_count(loop: form.Statement) -> bool:
+    return isinstance(loop, form.Count)
+
+
+def _of_object(loop: form.Statement) -> bool:
+    """Whether the turns work on an object each."""
+    if not isinstance(loop, form.Count) or not turn.counted(loop):
+        return False
+    return turn.element(loop) is not None or turn.receiver_of_call(loop) is not None
+
+
+def _is_walk(loop: form.Statement) -> bool:
+    return isinstance(loop, (form.Loop, form.Count)) and not turn.counted(loop)
+
+
+LOOPS = [
+    OfLoop(_is_count, _tidied),
+    OfLoop(_of_object, _turned(True, False)), OfLoop(_of_object, _turned(True, True)),
+    OfLoop(turn.counted, _turned(False, False)), OfLoop(turn.counted, _turned(False, True)),
+    OfLoop(_is_walk, _walked(False)), OfLoop(_is_walk, _walked(True)),
+    OfLoop(_is_count, _then(_tidied, opaque.all_of)), OfLoop(_of_object, _then(_turned(True, True), opaque.all_of)),
+    OfLoop(_is_count, _then(_tidied, values.shared)), OfLoop(_of_object, _then(_turned(True, True), values.shared)),
+    OfLoop(_is_count, _then(_tidied, values.flattened)), OfLoop(_of_object, _then(_turned(True, True), values.flattened)),
+    OfLoop(_of_object, _gathered),
+    OfLoop(owner.may_be, _behind(owner.kept, _turned(True, True))),
+    OfLoop(owner.may_be, _behind(owner.kept, _turned(False, True))),
+    OfLoop(seek.may_be, _sought(False)), OfLoop(seek.may_be, _sought(True)),
+    OfLoop(zeros.may_be, _behind(zeros.summed, _turned(True, True))),
+    OfLoop(zeros.may_be, _behind(zeros.summed, _turned(False, True))),
 ]  # fmt: skip
 
 # Recursions -----------------------------------------------------------------------------------------------------------

@@ -14,13 +14,17 @@ from .sums import _first, _replaced
 NAME = "value method to an operation"
 
 
+def user_loops(method: form.Method) -> list[form.Loop | form.Count]:
+    """The user's loops of a method that can be an operation; none where it can't."""
+    if not method.pure or method.result is None or facts.assigned(method.body) & set(method.parameters):
+        return []
+    loops = [one for one in form.statements(method.body) if isinstance(one, (form.Loop, form.Count)) and one.user]
+    return loops if loops and not facts.recursive(method) else []
+
+
 def made_operation(shape: Shape, method: form.Method) -> form.Method | None:
     """The operation, which callers ask in place of the method; None where it can't be."""
-    if not method.pure or method.result is None or facts.recursive(method):
-        return None
-    if not any(isinstance(one, (form.Loop, form.Count)) and one.user for one in form.statements(method.body)):
-        return None
-    if facts.assigned(method.body) & set(method.parameters):
+    if not user_loops(method) or method.result is None:
         return None
     callers = [one for one in shape.program.methods() if not one.pure and method in facts.called(one.body)]
     if not callers:

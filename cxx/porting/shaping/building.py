@@ -35,7 +35,10 @@ class Shape:
         """What is used in a class: by fields, methods and the locals of its methods."""
         used = cls.names()
         for method in cls.methods:
-            used |= {one.name for one in method.parameters} | {one.name for one in facts.used(method.body)}
+            used |= {one.name for one in method.parameters}
+            for one in form.statements(method.body):
+                for expr in form.own_expressions(one):
+                    _named(expr, used)
         return used
 
     def method(self, cls: form.Class, name: str, like: form.Method, place: Place) -> form.Method:
@@ -48,6 +51,14 @@ class Shape:
         made = form.Slot(unique(name, self.names(cls)), type_, origin=origin)
         cls.slots.append(made)
         return made
+
+
+def _named(expr: form.Expr, used: set[str]) -> None:
+    if isinstance(expr, form.Local):
+        used.add(expr.name)
+    else:
+        for part in form.parts(expr):
+            _named(part, used)
 
 
 def copied(body: list[form.Statement]) -> list[form.Statement]:

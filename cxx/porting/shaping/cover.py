@@ -4,7 +4,7 @@ from typing import Iterable
 
 from .. import form
 from .building import Shape
-from .facts import reached, recursive
+from .facts import Calls, reached, recursions
 from .marks import Site
 
 FEW = 16
@@ -16,12 +16,16 @@ class Cover:
     def __init__(self, shape: Shape) -> None:
         self.within: dict[Site, set[Site]] = {}
         self.few: set[Site] = set()
+        calls: Calls = {}
+        calling = recursions(shape.program, calls)
         for method in shape.program.methods():
-            if recursive(method):
-                self.within[("recursion", method.place)] = _of(method.body) | {("recursion", method.place)}
+            if method in calling:
+                self.within[("recursion", method.place)] = _of(method.body, calls, calling) | {
+                    ("recursion", method.place)
+                }
             for one in _loops(method.body):
                 site = ("loop", one.place)
-                self.within.setdefault(site, set()).update(_of([one]))
+                self.within.setdefault(site, set()).update(_of([one], calls, calling))
                 if isinstance(one, form.Count) and _few(one):
                     self.few.add(site)
 
@@ -39,13 +43,13 @@ class Cover:
         return bool(won) and lost <= taken and best <= covered
 
 
-def _of(body: list[form.Statement]) -> set[Site]:
+def _of(body: list[form.Statement], calls: Calls, calling: set[form.Method]) -> set[Site]:
     """The loops and recursions that a run of the statements may come to."""
-    within = reached(body)
+    within = reached(body, calls)
     found: set[Site] = {
         ("loop", one.place) for block in [body, *(method.body for method in within)] for one in _loops(block)
     }
-    return found | {("recursion", method.place) for method in within if recursive(method)}
+    return found | {("recursion", method.place) for method in within if method in calling}
 
 
 def _loops(body: list[form.Statement]) -> Iterable[form.Loop | form.Count]:

@@ -67,12 +67,11 @@ def _put(one: form.Put, methods: Methods) -> None:
 
 def _expr(expr: form.Expr, methods: Methods) -> form.Expr:
     """The expression with the methods of the other program; the same one where it calls none."""
-    match expr:
-        case form.Apply(method, receiver, arguments, type_):
-            given = tuple(_expr(one, methods) for one in arguments)
-            return form.Apply(methods.get(method, method), _expr(receiver, methods), given, type_)
-        case form.Local() | form.Number() | form.This() | form.Root() | form.Truth() | form.Null():
-            return expr
+    if isinstance(expr, form.Apply):
+        given = tuple([_expr(one, methods) for one in expr.arguments])
+        return form.Apply(methods.get(expr.method, expr.method), _expr(expr.receiver, methods), given, expr.type)
     old = form.parts(expr)
-    made = tuple(_expr(part, methods) for part in old)
+    if not old:
+        return expr
+    made = tuple([_expr(part, methods) for part in old])
     return expr if all(a is b for a, b in zip(old, made)) else form.with_parts(expr, made)

@@ -50,10 +50,18 @@ def assigned(body: Iterable[form.Statement]) -> set[form.Local]:
 def used(body: Iterable[form.Statement]) -> list[form.Local]:
     """The locals that stand in the statements, in their order."""
     found: dict[form.Local, None] = {}
-    for expr in form.expressions(list(body)):
-        if isinstance(expr, form.Local):
-            found[expr] = None
+    for one in form.statements(list(body)):
+        for expr in form.own_expressions(one):
+            _locals(expr, found)
     return list(found)
+
+
+def _locals(expr: form.Expr, found: dict[form.Local, None]) -> None:
+    if isinstance(expr, form.Local):
+        found[expr] = None
+    else:
+        for part in form.parts(expr):
+            _locals(part, found)
 
 
 def free(body: list[form.Statement]) -> list[form.Local]:
@@ -69,21 +77,33 @@ def called(body: Iterable[form.Statement]) -> list[form.Method]:
         if isinstance(one, form.Do):
             found[one.method] = None
         for expr in form.own_expressions(one):
-            for part in form.within(expr):
-                if isinstance(part, form.Apply):
-                    found[part.method] = None
+            _applied(expr, found)
     return list(found)
 
 
-def reached(body: list[form.Statement]) -> list[form.Method]:
-    """The methods that a run of the statements may enter."""
+def _applied(expr: form.Expr, found: dict[form.Method, None]) -> None:
+    if isinstance(expr, form.Apply):
+        found[expr.method] = None
+    for part in form.parts(expr):
+        _applied(part, found)
+
+
+# What each method calls, where no body changes meanwhile.
+Calls = dict[form.Method, list[form.Method]]
+
+
+def reached(body: list[form.Statement], known: Calls | None = None) -> list[form.Method]:
+    """The methods that a run of the statements may enter; what each calls is taken from `known`, and kept there."""
+    calls = known if known is not None else {}
     found: dict[form.Method, None] = {}
     waiting = called(body)
     while waiting:
         method = waiting.pop(0)
         if method not in found:
             found[method] = None
-            waiting += called(method.body)
+            if method not in calls:
+                calls[method] = called(method.body)
+            waiting += calls[method]
     return list(found)
 
 
@@ -91,15 +111,21 @@ def recursive(method: form.Method) -> bool:
     return method in reached(method.body)
 
 
+def recursions(program: form.Program, known: Calls | None = None) -> set[form.Method]:
+    """The methods that call themselves, also by others."""
+    calls = known if known is not None else {}
+    return {one for one in program.methods() if one in reached(one.body, calls)}
+
+
 def place_of(expr: form.Field | form.Item) -> Place:
     assert isinstance(expr.object.type, form.Pointer)
     return expr.object.type.cls, expr.name
 
 
-def effects(body: list[form.Statement], updates: bool = True) -> Effects:
+def effects(body: list[form.Statement], updates: bool = True, known: Calls | None = None) -> Effects:
     """What a run of the statements may do, its calls included; whether `f += e` is a read of f too."""
     found = Effects()
-    for block in [body] + [method.body for method in reached(body)]:
+    for block in [body] + [method.body for method in reached(body, known)]:
         _direct(block, found, updates)
     return found
 

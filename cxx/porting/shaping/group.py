@@ -1,8 +1,8 @@
 """Not proved (README.md). Statements on another object as one operation of it.
 
 Asked before: statements in a row write fields of one object alone, which is named by an expression that none of them changes, and use
-only locals and that object's fields beside. They run as they are, in their order, in an operation of that object; a null pointer ends the
-run as before. Steps: a call more.
+only locals and that object's fields beside; one of them certainly looks through the pointer, and none asks whether it is null. They run as they
+are, in their order, in an operation of that object; a null pointer ends the run as before. Steps: a call more.
 """
 
 from .. import form
@@ -35,11 +35,15 @@ def _block(shape: Shape, method: form.Method, body: list[form.Statement]) -> Non
             end -= 1
         run = body[at:end]
         left = set(facts.used(body[end:])) & facts.declared(run)
-        if not left and _asks_itself(run, owner) and not _writes_own(run):
+        sure = any(facts.follows(one, owner) for one in run)
+        if sure and not left and _asks_itself(run, owner) and not _writes_own(run, owner):
             body[at:end] = [_grouped(shape, method, run, owner)]
-        else:
-            at = end - 1
-        at += 1
+            at += 1
+            continue
+        for one in run:
+            for block in form.blocks(one):
+                _block(shape, method, block)
+        at = end
 
 
 def _let_for(one: form.Statement, owner: form.Expr) -> bool:
@@ -92,10 +96,12 @@ def _named(owner: form.Expr) -> bool:
 
 
 def _only_of(expr: form.Expr, owner: form.Expr) -> bool:
-    """Whether the expression uses locals, fields of the object and single fields of this alone."""
-    if expr == owner or _own(expr):
+    """Whether the expression uses locals, fields of the object and single fields of this alone, and the object for nothing else."""
+    if _own(expr) and expr != owner:
         return True
-    if isinstance(expr, (form.This, form.Root, form.Apply)):
+    if isinstance(expr, (form.Field, form.Item)) and expr.object == owner:
+        return not isinstance(expr, form.Item) or _only_of(expr.index, owner)
+    if isinstance(expr, (form.This, form.Root, form.Apply)) or expr == owner:
         return False
     return all(_only_of(part, owner) for part in form.parts(expr))
 
@@ -106,13 +112,15 @@ def _own(expr: form.Expr) -> bool:
     )
 
 
-def _writes_own(run: list[form.Statement]) -> bool:
-    """Whether a field that is written may be one of this that is read."""
+def _writes_own(run: list[form.Statement], owner: form.Expr) -> bool:
+    """Whether a field that is written may be one of this that is read, or the one that names the object."""
     written = {
         facts.place_of(one.target)
         for one in form.statements(run)
         if isinstance(one, form.Put) and not isinstance(one.target, form.Local)
     }
+    if isinstance(owner, form.Field) and facts.place_of(owner) in written:
+        return True
     return any(_own(part) and facts.place_of(part) in written for part in form.expressions(run))  # type: ignore[arg-type]
 
 

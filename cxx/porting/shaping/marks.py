@@ -8,7 +8,7 @@ from ..places import Place
 from ..text import Text
 from .building import Shape
 from .duplicates import duplicate
-from .facts import recursive
+from .facts import recursions
 
 Site = tuple[str, Place]
 # What was answered on a text, for the length of a search.
@@ -28,8 +28,13 @@ class Marks:
 def finished(shape: Shape) -> tuple[Shape, Text, list[int]]:
     """A copy of the program as a text."""
     again = duplicate(shape)
-    stops = finishing.end(again.program)
-    return again, Text(again.program), stops
+    return again, *ended(again)
+
+
+def ended(shape: Shape) -> tuple[Text, list[int]]:
+    """The program as a text, after which no rewrite can work on it."""
+    stops = finishing.end(shape.program)
+    return Text(shape.program), stops
 
 
 def marks(shape: Shape, plans: Plans | None = None) -> Marks | None:
@@ -52,10 +57,11 @@ def marked(done: Shape, text: Text, plans: Plans | None = None) -> Marks | None:
             verdict = told.get(f"loop {at + 1}", False)
             found[key] = found.get(key, True) and verdict
             loops |= {id(one)} if verdict else set()
+    calling = recursions(done.program)
     for method in done.program.methods():
         if method in done.loops:
             key = ("loop", done.loops[method])
-        elif recursive(method) and not method.origin.startswith("a "):
+        elif method in calling and not method.origin.startswith("a "):
             key = ("recursion", method.place)
         else:
             continue

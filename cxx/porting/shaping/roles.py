@@ -7,6 +7,7 @@ on several sets. So every statement runs on the same objects as before; only the
 
 from .. import form
 from ..words import unique
+from . import facts
 from .building import Shape, copied
 from .unified import Copy, Role, TooMany, Unified, found
 
@@ -26,7 +27,7 @@ def split(shape: Shape) -> Shape | None:
     made = _Splitting(shape.program, unified, names).program()
     if len(made.methods()) > MOST_METHODS:
         return None
-    again = Shape(made)
+    again = Shape(made, list(shape.told), {}, dict(shape.done))
     for cls, count in names.several.items():
         again.count(NAME)
         old = shape.program.classes[cls]
@@ -75,6 +76,11 @@ class _Splitting:
         self._keys: dict[Copy, int] = {}
         self._known: dict[tuple[object, ...], int] = {}
         self._methods: dict[int, form.Method] = {}
+        # What is called in a class hides methods of its names.
+        self._locals = {
+            cls.name: {local.name for one in cls.methods for local in [*one.parameters, *facts.used(one.body)]}
+            for cls in program.classes.values()
+        }
 
     def program(self) -> form.Program:
         for name, cls in self._old.classes.items():
@@ -96,7 +102,7 @@ class _Splitting:
             type_ = slot.type
             if role is not None and slot.name in role.fields:
                 type_ = form.Pointer(self._names.of(role.fields[slot.name]))
-            slots.append(form.Slot(slot.name, type_, slot.length, slot.origin, slot.grows, slot.place))
+            slots.append(form.Slot(slot.name, type_, slot.length, slot.origin, slot.grows, slot.place, slot.owned))
         self._classes[name] = form.Class(name, slots, [], cls.place, cls.origin)
 
     def _key(self, copy: Copy) -> int:
@@ -114,7 +120,7 @@ class _Splitting:
     def _declared(self, copy: Copy) -> bool:
         """Declares the method that the copy becomes."""
         old, cls = copy.method, self._classes[self._names.of(copy.this)]
-        used = cls.names() | {name for other in [old] for name in copy.locals}
+        used = cls.names() | self._locals[old.cls.name]
         made = form.Method(
             unique(old.name, used), cls, self._type(old.result, copy.result), [], [], old.pure, old.place
         )

@@ -10,7 +10,7 @@ Steps: two more for each value that is added.
 from .. import form
 from ..finishing import jumps
 from . import facts
-from .building import ROOT, Shape, copied, fitted
+from .building import ROOT, Shape, copied, fitted, own_copies
 
 NAME = "sum that a recursion gives back to a total"
 TOTAL = "Total"
@@ -35,7 +35,7 @@ def summed(shape: Shape, method: form.Method) -> form.Method | None:
     made.body = body
     parameters = fitted(made.body, [total, *method.parameters], method.cls.names())
     made.parameters = parameters
-    _own_copies(made)
+    own_copies(made)
     jumps.one(made)
     if not _asked(shape, method, made):
         method.cls.methods.remove(made)
@@ -81,16 +81,6 @@ def _only(body: list[form.Statement], local: form.Local) -> bool:
         elif isinstance(one, form.Return) and one.value == local:
             count += 1
     return sum(1 for one in form.expressions(body) if one == local) == count
-
-
-def _own_copies(made: form.Method) -> None:
-    """Parameters that are put become locals."""
-    changed = facts.assigned(made.body)
-    for at, one in enumerate(made.parameters):
-        if one in changed:
-            given = form.Local(one.name + "_given", one.type)
-            made.parameters[at] = given
-            made.body.insert(0, form.Let(one, given, made.place))
 
 
 def _adding(

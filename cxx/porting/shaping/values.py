@@ -1,20 +1,22 @@
 """Not proved (README.md). What a section computes by a loop or a division, as calls of value methods.
 
-Asked before: the loop calls no operation, prints and makes nothing, and writes locals and single fields of its own object alone. Each of
-what it leaves behind comes from a value method that does the loop over locals, from what the locals and fields had before it; all are
+Asked before: the loop calls no operation, prints and makes nothing, and writes locals and single fields of its own object alone, which it
+reads of no other object. Each of what it leaves behind comes from a value method that does the loop over locals, from what the locals and fields had before it; all are
 computed before any is put. So each has the same value. Where it is only added to, the method gives the sum, which is added.
 
-Steps: the loop is repeated for each that it leaves behind, and calls are added.
+Steps: the loop is repeated for each that it leaves behind, and calls are added. What a section declares first is computed once for all fields,
+where the operation can be compared so.
 """
 
 from .. import form
-from . import facts
-from .building import Shape, copied, renamed, replace, this
+from . import facts, opaque
+from .building import Shape, copied, own_copies, renamed, replace, this
 
 
 LOOP = "loop that only computes to value methods"
 DIVISION = "division to a value method"
 SECTION = "section to value methods"
+SHARED = "what a section computes first, once for all its fields"
 
 
 def divisions(shape: Shape, method: form.Method) -> None:
@@ -101,14 +103,15 @@ def _values(
         one.target for one in form.statements(body) if isinstance(one, form.Put) and isinstance(one.target, form.Field)
     }
     written = sorted(fields, key=lambda one: one.name)
-    calls = [one for one in form.expressions(body) if isinstance(one, form.Apply)]
-    reads = {
-        place for call in calls for inner in [call.method, *facts.reached(call.method.body)] for place in _reads(inner)
-    }
-    if any(facts.place_of(one) in reads for one in written):
+    called = [one.method for one in form.expressions(body) if isinstance(one, form.Apply)]
+    inner = {other for one in called for other in [one, *facts.reached(one.body)]}
+    if any(_places(one.body) & set(map(facts.place_of, written)) for one in inner):
         return None
     stand = {one: form.Local(f"{one.name}_now", one.type) for one in written}
     replace(body, lambda expr: stand.get(expr) if isinstance(expr, form.Field) else None)
+    # (another object's field of the same name may be this one's)
+    if _places(body) & {facts.place_of(one) for one in written}:
+        return None
     outside = facts.free(body)
     changed = facts.assigned(body)
     results: list[tuple[form.Target, form.Local]] = [(one, stand[one]) for one in written]
@@ -122,7 +125,7 @@ def _values(
         added = _only_added(body, local)
         made = _method(shape, method, body, local, added, loop)
         given = tuple(back.get(one, one) for one in made.parameters)
-        made.parameters = _apart(made)
+        own_copies(made)
         value = form.Apply(made, this(method.cls), given, local.type)
         if len(results) == 1:
             puts.append(form.Put(target, "+" if added else "", value, loop.place))
@@ -135,12 +138,38 @@ def _values(
 
 def flattened(shape: Shape, method: form.Method) -> bool:
     """A whole section as value methods, one for each field that it changes; whether that was done."""
-    head: list[form.Statement] = []
+    return _flattened(shape, method, [])
+
+
+def shared(shape: Shape, method: form.Method) -> bool:
+    """The same, but what the section declares first is computed once, and handed to each of them."""
+    changed = facts.assigned(method.body)
+    first: list[form.Statement] = []
     for one in method.body:
+        if not isinstance(one, form.Let) or one.value is None or one.local in changed:
+            break
+        first.append(one)
+    if not any(_is_work(one) for one in first):
+        return flattened(shape, method)
+    if not _flattened(shape, method, first):
+        return False
+    shape.count(SHARED)
+    opaque.all_of(shape, method)
+    return True
+
+
+def _is_work(one: form.Statement) -> bool:
+    """Whether the declaration computes more than it reads."""
+    return any(isinstance(part, (form.Binary, form.Apply, form.Help)) for part in form.expressions([one]))
+
+
+def _flattened(shape: Shape, method: form.Method, first: list[form.Statement]) -> bool:
+    head: list[form.Statement] = []
+    for one in method.body[len(first) :]:
         if any(isinstance(x, (form.Do, form.Make, form.Tell, form.Fail, form.Return)) for x in form.statements([one])):
             break
         head.append(one)
-    rest = method.body[len(head) :]
+    rest = method.body[len(first) + len(head) :]
     whole = form.If(form.Truth(True), head, [], method.place)
     if method.pure or not any(isinstance(one, (form.If, form.Loop, form.Count)) for one in head):
         return False
@@ -149,27 +178,14 @@ def flattened(shape: Shape, method: form.Method) -> bool:
     new = _values(shape, method, whole, set(facts.used(rest)))
     if new is None:
         return False
-    method.body = new + rest
+    method.body = first + new + rest
     shape.count(SECTION)
     return True
 
 
-def _apart(made: form.Method) -> list[form.Local]:
-    """Parameters that the body may change are locals that start at them."""
-    changed = facts.assigned(made.body)
-    out = []
-    for one in made.parameters:
-        if one in changed:
-            given = form.Local(one.name + "_given", one.type)
-            made.body.insert(0, form.Let(one, given, made.place))
-            out.append(given)
-        else:
-            out.append(one)
-    return out
-
-
-def _reads(method: form.Method) -> set[facts.Place]:
-    return {facts.place_of(one) for one in form.expressions(method.body) if isinstance(one, (form.Field, form.Item))}
+def _places(body: list[form.Statement]) -> set[facts.Place]:
+    """The fields that stand in the statements."""
+    return {facts.place_of(one) for one in form.expressions(body) if isinstance(one, (form.Field, form.Item))}
 
 
 def _only_added(body: list[form.Statement], local: form.Local) -> bool:

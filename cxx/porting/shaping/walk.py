@@ -28,13 +28,13 @@ def walked(
         return None
     if any(isinstance(one, (form.Break, form.Continue, form.Return)) for one in form.statements(loop.body)):
         return None
-    link = _link(loop)
-    if link is not None:
-        return _along(shape, method, block, loop, link, lifts)  # type: ignore[arg-type]
+    next_ = link(loop)
+    if next_ is not None:
+        return _along(shape, method, block, loop, next_, lifts)  # type: ignore[arg-type]
     return _tail(shape, method, block, loop)
 
 
-def _link(loop: form.Statement) -> form.Expr | None:
+def link(loop: form.Statement) -> form.Expr | None:
     """The link by which a loop goes on, where it is `for (p = ..; p != nullptr; p = p->link)`."""
     if (
         not isinstance(loop, form.Count)
@@ -51,7 +51,7 @@ def _link(loop: form.Statement) -> form.Expr | None:
 
 
 def _along(
-    shape: Shape, method: form.Method, block: list[form.Statement], loop: form.Count, link: form.Expr, lifts: bool
+    shape: Shape, method: form.Method, block: list[form.Statement], loop: form.Count, along: form.Expr, lifts: bool
 ) -> form.Method | None:
     if not promoted(shape, method, loop):
         return None
@@ -60,7 +60,7 @@ def _along(
     it = Body(copied(loop.body), cls, loop.first)
     hand_over_this(it, method)
     replace(it.body, lambda expr: this(cls) if expr == loop.counter else None)
-    next_ = form.mapped(link, lambda expr: this(cls) if expr == loop.counter else None)
+    next_ = form.mapped(along, lambda expr: this(cls) if expr == loop.counter else None)
     made = shape.method(cls, f"{method.name}_walk", method, loop.place)
     made.origin = f"a turn of the loop at {loop.place.line}"
     made.body = it.body

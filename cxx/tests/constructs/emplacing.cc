@@ -1,6 +1,11 @@
 // emplace_back with the arguments of a constructor.
 #include <cstdio>
 #include <deque>
+#include <functional>
+#include <map>
+#include <queue>
+#include <set>
+#include <stack>
 #include <string>
 #include <vector>
 struct Node;
@@ -41,4 +46,21 @@ int main() {
     for (const Edge &e : n->edges) printf("%d->%d %d\n", n->id, e.to->id, e.weight);
   printf("%d %s %d %s\n", nodes[1].id, nodes[1].word, nodes[2].id, nodes[2].word);
   printf("%ld %ld %ld %d %zu\n", cells[0].n, numbers[0], numbers[1], pairs[0].second, nodes.size());
+  std::priority_queue<std::pair<int, int>, std::vector<std::pair<int, int>>, std::greater<std::pair<int, int>>> open;
+  for (int i = 0; i < 6; i++) open.emplace(i * 5 % 7, nine);
+  std::queue<Edge> line;
+  line.emplace(all[1], 3);
+  std::stack<Cell> pile;
+  pile.emplace();
+  std::deque<Edge> both;
+  both.emplace_back(all[2], 4);
+  both.emplace_front(all[3], 5);
+  std::set<long> some;
+  some.emplace(nine);
+  some.emplace(9L);
+  std::map<int, long> table;
+  table.emplace(nine, 4);
+  table.emplace(9, 5);
+  printf("%d %d %ld %d %d\n", open.top().first, line.front().weight, pile.top().n, both[0].weight, both[1].to->id);
+  printf("%zu %ld %zu\n", some.size(), table[9], table.size());
 }

@@ -7,12 +7,27 @@ struct Tally {
   bool odd = false;
 };
 
+struct Spot {
+  long x, y;
+  Spot(long x, long y) : x(x), y(y) {}
+  Spot operator+(const Spot &o) const { return Spot(x + o.x, y + o.y); }
+  long dot(const Spot &o) const { return x * o.x + y * o.y; }
+  void turn() {
+    long old = x;
+    x = -y;
+    y = old;
+  }
+};
+
+static long apart(const Spot &p, const Spot &q) { return (p.x - q.x) * (p.x - q.x) + (p.y - q.y) * (p.y - q.y); }
+
 struct Item {
   long a, b, pulled = 0, pushed = 0;
+  Spot spot;
   bool seen = false;
   Item *next = nullptr, *left = nullptr, *right = nullptr;
   std::vector<Item *> near;
-  Item(long a, long b) : a(a), b(b) {}
+  Item(long a, long b) : a(a), b(b), spot(a, 2 * b) {}
   void pull(long m, long x) {
     pulled += m * x;
     pushed -= m;
@@ -40,6 +55,8 @@ struct Item {
     if (right) right->spread(t, k);
     b += k;
   }
+  long worth() const { return b * 3 + a; }
+  void grow() { b += worth() % 7; }
   void settle() {
     if (left) left->settle();
     if (left && left->b > 9) b -= 3;
@@ -81,6 +98,7 @@ static void compute(Cell *list) {
 
 struct Store {
   std::vector<Item *> items;
+  long table[9] = {};
   Item *list = nullptr;
   long sum(long k) const { return items[0]->sum(k); }
   long most() const {
@@ -127,6 +145,50 @@ struct Store {
       }
     return total + greatest + any;
   }
+  void grow() {
+    for (Item *p : items) p->grow();
+  }
+  // Who is nearest to k, and which of the list is least, with the one before it.
+  long choose(long k) {
+    long near = 1000;
+    Item *owner = nullptr, *least = nullptr, *before = nullptr, *before_least = nullptr;
+    for (Item *p : items) {
+      long d = p->a > k * 9 ? p->a - k * 9 : k * 9 - p->a;
+      if (p->near.size() > 0 && d < near) {
+        near = d;
+        owner = p;
+      }
+    }
+    for (Item *p = list; p; before = p, p = p->next) {
+      if (p->a % 4 < p->pulled) p->pulled = p->a % 4;
+      if (!least || p->pulled < least->pulled) {
+        least = p;
+        before_least = before;
+      }
+    }
+    return near + owner->b * 100 + least->a * 1000 + (before_least ? before_least->a : 7);
+  }
+  const Item *heaviest() const {
+    const Item *best = items[0];
+    for (const Item *p : items)
+      if (p->b > best->b) best = p;
+    return best;
+  }
+  long wander(long k) {
+    for (Item *p : items) {
+      p->spot = p->spot + Spot(k, p->a % 5);
+      if (p->spot.x > 20) p->spot.turn();
+    }
+    return items[1]->spot.dot(items[2]->spot) + apart(items[3]->spot, items[4]->spot);
+  }
+  void tell(long k) {
+    for (size_t i = 0; i < items.size(); i++) table[i] = items[i]->a * k + items[i]->b;
+    for (Item *p : items) {
+      long d = p->a * k * 3 + 1, e = p->a - k * p->a * 2;
+      if (d > e + 20) p->pushed = p->pushed * 2 % 1009 + d * e;
+      else p->pulled -= e;
+    }
+  }
   void meet() {
     for (Item *p : items) {
       if (p->a % 3 == 0) continue;
@@ -170,6 +232,9 @@ int main() {
   for (int t = 1; t < 4; t++) {
     total += s.step(t) + s.sum(t) + halves(total % 1000);
     s.meet();
+    s.grow();
+    s.tell(t);
+    total += s.choose(t) + s.heaviest()->a + s.wander(t);
     s.items[0]->spread(tally, t);
     s.items[0]->settle();
     compute(red);
@@ -178,7 +243,8 @@ int main() {
   visit(s.items[3], 2);
   visit(s.list, 5);
   printf("%ld %ld %ld\n", total, s.most(), visits);
+  for (long one : s.table) printf("%ld\n", one);
   printf("%ld %ld %ld %ld %d\n", tally->sum, tally->most, tally->least, tally->count, tally->odd);
-  for (Item *p : s.items) printf("%ld %ld %ld %ld %d\n", p->a, p->b, p->pulled, p->pushed, p->seen);
+  for (Item *p : s.items) printf("%ld %ld %ld %ld %d %ld %ld\n", p->a, p->b, p->pulled, p->pushed, p->seen, p->spot.x, p->spot.y);
   for (Cell *c = red; c; c = c->next) printf("%ld %ld\n", c->value, c->from->value);
 }

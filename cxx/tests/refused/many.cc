@@ -32,7 +32,5 @@ int main(int argc, char **argv) {
 // refused: 10:12: a bit-field; write a plain member
 // refused: 14:15: goto; write a loop or a function
 // refused: 16:1: a label; write a loop or a function
-// refused: 19:5: main with arguments; write int main(), with constants: a run has no input
 // refused: 22:3: the type int (*)(int); call functions by their names, or pass a lambda to a template
-// refused: 24:3: string's +=; write literal strings, which are kept, compared and printed
 // refused: 26:12: the address of a number or pointer; write a reference, or an object that has it

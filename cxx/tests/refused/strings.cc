@@ -1,17 +1,20 @@
+#include <cstdio>
 #include <iostream>
 #include <string>
+struct Named {
+  const char *name;
+  int n;
+  Named(const char *letters, int k) : name(letters), n(k) {}
+};
 int main() {
   std::string s = "a";
   s += "b";
-  s.push_back('c');
-  std::string t = s + "d";
-  std::string n = std::to_string(5);
-  std::cout << s << t << n << s.size() << "\n";
-  std::cout << s.substr(1) << "\n";
+  Named one{s.c_str(), 3};
+  one.name = s.c_str();
+  Named *other = new Named("b", 2);
+  const char *first = "x";
+  std::cout << s << one.name << other->n << std::to_string(1.5) << first << "\n";
 }
-// refused: 5:3: string's +=; write literal strings, which are kept, compared and printed
-// refused: 6:3: string's push_back; write literal strings, which are kept, compared and printed
-// refused: 7:19: string's +; write literal strings, which are kept, compared and printed
-// refused: 8:19: a number as a string; print the number itself
-// refused: 9:31: string's size; write literal strings, which are kept, compared and printed
-// refused: 10:16: string's substr; write literal strings, which are kept, compared and printed
+// refused: 12:13: letters of an array or a std::string where a literal string is wanted; let the parameter be an array, or const std::string &
+// refused: 13:14: letters of an array or a std::string where a literal string is wanted; let the parameter be an array, or const std::string &
+// refused: 16:60: a number with a fraction; write whole numbers, scaled (fixed point)

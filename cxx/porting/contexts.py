@@ -1,10 +1,10 @@
-"""Not proved (../README.md). Which loops and methods are run by nothing but what runs in parallel: what is serial in
+"""Not proved (README.md). Which loops and methods are run by nothing but what runs in parallel: what is serial in
 them costs no thread its work."""
 
 from typing import Callable
 
-from porting import form
-from porting.port import Ported
+from . import form
+from .port import Ported
 
 
 class Contexts:

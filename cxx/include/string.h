@@ -1,0 +1,3 @@
+// Not proved (../README.md).
+#pragma once
+#include <cstring>
