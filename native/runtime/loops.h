@@ -111,10 +111,11 @@ struct Trial {
   long at;
 };
 
-// Runs turns alone, until so much time and so many of them have passed, or LONG_TRIAL, and what is left looks worth
-// others. What the
-// first ones touch isn't near yet, so those that came last say what a turn takes, if it is less.
+// No trial takes longer, whatever part of a loop it was to be.
 const Time LONG_TRIAL = 100 * MICROSECOND;
+
+// Runs turns alone, until so much time and so many of them have passed, or LONG_TRIAL, and what is left looks worth
+// others. What the first ones touch isn't near yet, so those that came last say what a turn takes, if it is less.
 template <class Range> static inline Trial tried(long at, long end, Time least, long part, const Range &range) {
   const long from = at;
   long size = 1;
